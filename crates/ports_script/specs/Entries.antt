@@ -1,5 +1,6 @@
 -- The lines of a script, each of which writes an event.
 use Rattle.std.specs.Prelude.{ℕ, ◌==◌, nat_lt, List, length, codes, Option, Some, None, option_map, option_and_then, if◌then◌else◌}
+use Rattle.std.specs.Prelude.{◌≡◌, Result, IfOk}
 use Rattle.std.specs.List.{list_all, position_or_len, before_first, after_first}
 use Rattle.std.specs.Str.{bytes_eq}
 use Rattle.ports_core.specs.declared.event.Event.{Event}
@@ -60,3 +61,7 @@ worded word rest =
 -- and what the word asks for
 unfoldable pub event_of : List ℕ → Option Entry
 event_of line = if list_all is_printable line then at_blank worded line else None
+
+-- where a function succeeds, it read this event, or none if there is none
+abbrev pub ReadsEvent : {F : Type 0} → Result (Option Event) F → Option Entry → Type 0
+ReadsEvent result entry = IfOk result (λ event. option_map shown event ≡ entry)

@@ -2,7 +2,9 @@
 -- itself. Any byte may be written as `\r`, `\n`, `\t`, `\\` or `\x` with two hexadecimal digits.
 use Rattle.std.specs.Prelude.{ℕ, suc, zero, ◌+◌, ◌-◌, ◌*◌, ◌/◌, ◌%◌, Bool, not, ◌&&◌, ◌||◌, ◌==◌, nat_lt, nat_le, List, [], ◌∷◌}
 use Rattle.std.specs.Prelude.{◌++◌, length, flat_map, codes, Option, Some, None, option_map, option_and_then}
-use Rattle.std.specs.Prelude.{if◌then◌else◌}
+use Rattle.std.specs.Prelude.{◌≡◌, if◌then◌else◌, MatchOption, Result, IfOk, Vec}
+use Rattle.std.specs.Borrow.{Bor}
+use Rattle.std.specs.declared.alloc.Global.{Global}
 
 -- a byte from the blank to the tilde
 abbrev pub is_printable : ℕ → Bool
@@ -76,3 +78,11 @@ escape byte =
 -- bytes as they are printed
 unfoldable pub escaped : List ℕ → List ℕ
 escaped bytes = flat_map escape bytes
+
+-- a function read this byte, and left the text after it; or there is none, and it read none
+abbrev pub ReadsByte : Option (ℕ × Bor (List ℕ)) → Option (ℕ × List ℕ) → Type 0
+ReadsByte result byte = MatchOption result (byte ≡ None) (λ read. byte ≡ Some (read.0, read.1.now))
+
+-- where a function succeeds, it gives these bytes, or none if there are none
+abbrev pub GivesBytes : {F : Type 0} → Result (Option (Vec ℕ Global)) F → Option (List ℕ) → Type 0
+GivesBytes result bytes = IfOk result (λ given. option_map (λ (made : Vec ℕ Global). made.items) given ≡ bytes)

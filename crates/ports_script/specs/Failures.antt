@@ -19,11 +19,15 @@ failure_status CannotWrite = 1
 failure_status (Store _) = 1
 failure_status (Memory _) = 1
 
+-- the text of a failure that names a line of the script
+abbrev pub line_text : ℕ → List ℕ → List ℕ
+line_text line what = codes "portsd: line " ++ (decimal line ++ what)
+
 -- the text of a failure that is written on standard error
 abbrev pub failure_text : Failure → List ℕ
 failure_text BadKey = codes "portsd: bad key\n"
-failure_text (BadEvent line) = codes "portsd: line " ++ (decimal line ++ codes ": bad event\n")
-failure_text (NotAllowed line) = codes "portsd: line " ++ (decimal line ++ codes ": event not allowed\n")
+failure_text (BadEvent line) = line_text line (codes ": bad event\n")
+failure_text (NotAllowed line) = line_text line (codes ": event not allowed\n")
 failure_text CannotListen = codes "portsd: cannot listen\n"
 failure_text CannotWrite = codes "portsd: cannot write\n"
 failure_text (Store _) = codes "portsd: store failed\n"

@@ -1,5 +1,7 @@
 -- What a run prints.
-use Rattle.std.specs.Prelude.{ℕ, List, [], ◌∷◌, ◌++◌, codes, decimal, Option, Some, None}
+use Rattle.std.specs.Prelude.{◌≡◌, ℕ, List, [], ◌∷◌, ◌++◌, codes, decimal, Option, Some, None, Result, IfOk, OnOk}
+use Rattle.std.specs.Prelude.{String, string_bytes}
+use Rattle.std.specs.declared.alloc.Global.{Global}
 use Rattle.ports_core.specs.Effects.{Effect}
 use Rattle.ports_core.specs.declared.event.Tell.{Tell}
 use Rattle.ports_core.specs.declared.event.Refused.{Refused}
@@ -65,3 +67,11 @@ abbrev pub transcript : List (ℕ × Entry) → List Effect → List ℕ
 transcript [] steps = []
 transcript (entry ∷ entries) [] = []
 transcript (entry ∷ entries) (step ∷ steps) = printed entry.0 entry.1 step ++ transcript entries steps
+
+-- where a function succeeds, it made this text
+abbrev pub PrintsText : {F : Type 0} → Result (String Global) F → List ℕ → Type 0
+PrintsText result text = IfOk result (λ made. string_bytes made ≡ text)
+
+-- where a function succeeds, it added this text at the end
+abbrev pub AddsText : {R F : Type 0} → Result R F → String Global → String Global → List ℕ → Type 0
+AddsText result before after text = OnOk result (string_bytes after ≡ string_bytes before ++ text)

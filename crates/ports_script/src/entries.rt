@@ -1,9 +1,9 @@
 //! One line of a script.
-ghost use Rattle.std.specs.Prelude.{◌≡◌, ◌==◌, ◌<◌, IfOk, IfSome, MatchOption, option_map};
+ghost use Rattle.std.specs.Prelude.{◌≡◌, ◌==◌, ◌<◌, IfSome, option_map};
 ghost use Rattle.std.specs.List.{position};
-ghost use Rattle.ports_script.specs.Escapes.{unescaped, escape_of, hex_escape, hex_value};
+ghost use Rattle.ports_script.specs.Escapes.{unescaped, escape_of, hex_escape, hex_value, ReadsByte, GivesBytes};
 ghost use Rattle.ports_script.specs.Numerals.{number_of};
-ghost use Rattle.ports_script.specs.Entries.{Turn, shown, event_of, at_blank, piece_of, wrote_of, worded};
+ghost use Rattle.ports_script.specs.Entries.{Turn, shown, event_of, at_blank, piece_of, wrote_of, worded, ReadsEvent};
 
 use crate::numerals::read_number;
 use ports_core::Event;
@@ -12,7 +12,7 @@ use std::alloc::{AllocError, Global};
 /// The event that a line of a script writes. `None` if the line is in no form of a script. It fails only if
 /// there is no memory for the bytes of a piece.
 pub fn read_event(alloc: Global, line: &[u8]) -> Result<Option<Event>, AllocError>
-    ensures { IfOk result (λ event. option_map shown event ≡ event_of line.now) }
+    ensures { ReadsEvent result (event_of line.now) }
 {
     if !line.iter().all(|byte| matches!(byte, b' '..=b'~')) {
         return Ok(None);
@@ -28,7 +28,7 @@ pub fn read_event(alloc: Global, line: &[u8]) -> Result<Option<Event>, AllocErro
 
 /// The event that a word and what follows it write.
 fn read_worded(alloc: Global, word: &str, rest: &str) -> Result<Option<Event>, AllocError>
-    ensures { IfOk result (λ event. option_map shown event ≡ worded word.now rest.now) }
+    ensures { ReadsEvent result (worded word.now rest.now) }
 {
     match word {
         "open" => Ok(read_number(rest).map(Event::Open)),
@@ -43,7 +43,7 @@ fn read_worded(alloc: Global, word: &str, rest: &str) -> Result<Option<Event>, A
 
 /// `C TEXT`: bytes that came on a connection.
 fn read_piece(alloc: Global, text: &str) -> Result<Option<Event>, AllocError>
-    ensures { IfOk result (λ event. option_map shown event ≡ at_blank piece_of text.now) }
+    ensures { ReadsEvent result (at_blank piece_of text.now) }
 {
     let Some((conn, bytes)) = text.split_once(' ') else {
         return Ok(None);
@@ -81,7 +81,7 @@ fn read_turn(text: &str) -> Option<Event>
 /// The bytes that an escaped text encodes: `\r`, `\n`, `\t`, `\\`, and `\xhh` with two hexadecimal digits
 /// of either case. `None` if a backslash begins none of these.
 fn unescape(alloc: Global, text: &[u8]) -> Result<Option<Vec<u8>>, AllocError>
-    ensures { IfOk result (λ bytes. option_map (λ b. b.items) bytes ≡ unescaped text.now) }
+    ensures { GivesBytes result (unescaped text.now) }
 {
     let mut bytes = Vec::with_capacity(alloc, text.len())?;
     let mut rest = text;
@@ -106,8 +106,7 @@ fn first_backslash(text: &[u8]) -> Option<usize>
 
 /// The byte that the text after a backslash means, and what is left of the text.
 fn read_escape(text: &[u8]) -> Option<(u8, &[u8])>
-    ensures { MatchOption result (escape_of text.now ≡ None)
-        (λ r. escape_of text.now ≡ Some (r.0, r.1.now)) }
+    ensures { ReadsByte result (escape_of text.now) }
 {
     match text {
         [b'r', rest @ ..] => Some((b'\r', rest)),
@@ -121,8 +120,7 @@ fn read_escape(text: &[u8]) -> Option<(u8, &[u8])>
 
 /// The byte that two hexadecimal digits write, and what is left of the text.
 fn read_hex(text: &[u8]) -> Option<(u8, &[u8])>
-    ensures { MatchOption result (hex_escape text.now ≡ None)
-        (λ r. hex_escape text.now ≡ Some (r.0, r.1.now)) }
+    ensures { ReadsByte result (hex_escape text.now) }
 {
     let [high, low, rest @ ..] = text else {
         return None;

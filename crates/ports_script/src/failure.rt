@@ -1,10 +1,9 @@
 //! Why a run ends early.
-ghost use Rattle.std.specs.Prelude.{◌≡◌, ◌++◌, OnOk, OnErr, codes, decimal};
+ghost use Rattle.std.specs.Prelude.{◌≡◌};
 ghost use Rattle.refusals.specs.Refused.{refused};
-ghost use Rattle.std.specs.Io.KnownBytes.{Appends};
 ghost use Rattle.ports_script.specs.declared.failure.Failure.TheVariants as failures;
-ghost use Rattle.ports_script.specs.Writing.{AppendsFront, AppendsUpTo};
-ghost use Rattle.ports_script.specs.Failures.{failure_status, failure_text, script_failure, new_failure};
+ghost use Rattle.ports_script.specs.Writing.{AppendsUpTo, WritesAll, FailsAfterFront};
+ghost use Rattle.ports_script.specs.Failures.{failure_status, failure_text, line_text, script_failure, new_failure};
 
 use crate::script::ScriptFault;
 use crate::writing::write_whole;
@@ -96,10 +95,8 @@ pub fn report<E: Write>(failure: Failure, err: &mut E) -> u8
 
 /// Writes the text of a failure.
 fn say<E: Write>(failure: Failure, err: &mut E) -> io::Result<()>
-    ensures written { OnOk result (Appends (E.contents err.old) (E.contents err.new)
-        (failure_text failure)) }
-    ensures front { OnErr result (AppendsFront (E.contents err.old) (E.contents err.new)
-        (failure_text failure)) }
+    ensures written { WritesAll E.contents result err.old err.new (failure_text failure) }
+    ensures front { FailsAfterFront E.contents result err.old err.new (failure_text failure) }
 {
     match failure {
         Failure::BadKey => write_whole(err, "portsd: bad key\n".as_bytes()),
@@ -114,10 +111,8 @@ fn say<E: Write>(failure: Failure, err: &mut E) -> io::Result<()>
 
 /// Writes a text that names a line of the script.
 fn say_line<E: Write>(line: u64, what: &str, err: &mut E) -> io::Result<()>
-    ensures written { OnOk result (Appends (E.contents err.old) (E.contents err.new)
-        (codes "portsd: line " ++ (decimal line ++ what.now))) }
-    ensures front { OnErr result (AppendsFront (E.contents err.old) (E.contents err.new)
-        (codes "portsd: line " ++ (decimal line ++ what.now))) }
+    ensures written { WritesAll E.contents result err.old err.new (line_text line what.now) }
+    ensures front { FailsAfterFront E.contents result err.old err.new (line_text line what.now) }
 {
     let mut number = Buffer::new();
     write_whole(err, "portsd: line ".as_bytes())?;

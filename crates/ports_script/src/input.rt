@@ -1,6 +1,6 @@
 //! Inputs read to their end.
-ghost use Rattle.std.specs.Prelude.{IfOk, OnErr};
-ghost use Rattle.ports_script.specs.Scripts.{HasGiven, HasGivenSome};
+ghost use Rattle.std.specs.Prelude.{OnErr};
+ghost use Rattle.ports_script.specs.Scripts.{HasGivenSome, ReadsInput};
 
 use std::alloc::{AllocError, Global};
 use std::io::{ErrorKind, Read};
@@ -20,8 +20,7 @@ pub struct Given {
 /// Reads an input to its end, or up to a read that fails. A read that was interrupted is tried again. It
 /// fails only if there is no memory for the bytes.
 pub fn read_input<R: Read>(alloc: Global, reader: &mut R) -> Result<Given, AllocError>
-    ensures given { IfOk result (λ given. HasGiven (R.remaining reader.old)
-        (R.remaining reader.new) given.whole given.text.items) }
+    ensures given { ReadsInput result (R.remaining reader.old) (R.remaining reader.new) }
     ensures err { OnErr result (HasGivenSome (R.remaining reader.old) (R.remaining reader.new)) }
 {
     let mut text = Vec::new(alloc);

@@ -1,12 +1,12 @@
 //! What a run prints.
-ghost use Rattle.std.specs.Prelude.{◌≡◌, ◌++◌, true, IfOk, OnOk, string_bytes};
+ghost use Rattle.std.specs.Prelude.{◌≡◌, true};
 ghost use Rattle.std.specs.List.{position};
 ghost use Rattle.std.specs.Str.{IsUtf8};
 ghost use Rattle.ports_script.specs.Escapes.{is_escaped, escape, escaped, hex_text};
 ghost use Rattle.ports_script.specs.Entries.{shown};
 ghost use Rattle.ports_script.specs.Scripts.{numbered};
 ghost use Rattle.ports_script.specs.Printing.{sent_line, told_line, refused_line, closed_line};
-ghost use Rattle.ports_script.specs.Printing.{refused_word, printed, transcript};
+ghost use Rattle.ports_script.specs.Printing.{refused_word, printed, transcript, PrintsText, AddsText};
 
 use crate::script::Script;
 use ports_core::{Event, Refused, Step, Tell};
@@ -17,7 +17,7 @@ use std::fmt::Write;
 /// the refusal of a connection, and the connection that closed. Each line begins with the number of the
 /// event's line. Events that have no step print nothing. It fails only if there is no memory for the text.
 pub fn transcript_text(alloc: Global, script: &Script, steps: &[Step]) -> Result<String, AllocError>
-    ensures { IfOk result (λ text. string_bytes text ≡ transcript (numbered script.now) steps.now) }
+    ensures { PrintsText result (transcript (numbered script.now) steps.now) }
 {
     let mut text = String::new(alloc);
     for (index, step) in steps.iter().enumerate() {
@@ -30,8 +30,7 @@ pub fn transcript_text(alloc: Global, script: &Script, steps: &[Step]) -> Result
 
 /// Everything that is printed of one event.
 fn push_step(text: &mut String, line: u64, event: &Event, step: &Step) -> Result<(), AllocError>
-    ensures { OnOk result (string_bytes text.new ≡ string_bytes text.old
-        ++ printed line (shown event.now) step.now) }
+    ensures { AddsText result text.old text.new (printed line (shown event.now) step.now) }
 {
     let told = &step.told;
     push_sent(text, line, event, step.sent.as_slice())?;
@@ -42,8 +41,7 @@ fn push_step(text: &mut String, line: u64, event: &Event, step: &Step) -> Result
 
 /// The bytes that a Wrote took off its connection, if there are some.
 fn push_sent(text: &mut String, line: u64, event: &Event, bytes: &[u8]) -> Result<(), AllocError>
-    ensures { OnOk result (string_bytes text.new ≡ string_bytes text.old
-        ++ sent_line line (shown event.now) bytes.now) }
+    ensures { AddsText result text.old text.new (sent_line line (shown event.now) bytes.now) }
 {
     let Event::Wrote(conn, _) = event else {
         return Ok(());
@@ -58,8 +56,7 @@ fn push_sent(text: &mut String, line: u64, event: &Event, bytes: &[u8]) -> Resul
 
 /// A reply, if there is one: its tenant, its connection and the number of its status.
 fn push_told(text: &mut String, line: u64, reply: &Option<Tell>) -> Result<(), AllocError>
-    ensures { OnOk result (string_bytes text.new ≡ string_bytes text.old
-        ++ told_line line reply.now) }
+    ensures { AddsText result text.old text.new (told_line line reply.now) }
 {
     let Some(tell) = reply else {
         return Ok(());
@@ -75,8 +72,7 @@ fn push_told(text: &mut String, line: u64, reply: &Option<Tell>) -> Result<(), A
 
 /// A connection that wasn't opened, if there is one.
 fn push_refused(text: &mut String, line: u64, refused: Option<Refused>) -> Result<(), AllocError>
-    ensures { OnOk result (string_bytes text.new ≡ string_bytes text.old
-        ++ refused_line line refused) }
+    ensures { AddsText result text.old text.new (refused_line line refused) }
 {
     let Some(refused) = refused else {
         return Ok(());
@@ -96,8 +92,7 @@ fn refused_word(refused: Refused) -> &'static str
 
 /// The connection that closed, if there is one.
 fn push_closed(text: &mut String, line: u64, closed: Option<u64>) -> Result<(), AllocError>
-    ensures { OnOk result (string_bytes text.new ≡ string_bytes text.old
-        ++ closed_line line closed) }
+    ensures { AddsText result text.old text.new (closed_line line closed) }
 {
     let Some(conn) = closed else {
         return Ok(());
@@ -107,7 +102,7 @@ fn push_closed(text: &mut String, line: u64, closed: Option<u64>) -> Result<(), 
 
 /// Bytes as a script writes them.
 fn push_escaped(text: &mut String, bytes: &[u8]) -> Result<(), AllocError>
-    ensures { OnOk result (string_bytes text.new ≡ string_bytes text.old ++ escaped bytes.now) }
+    ensures { AddsText result text.old text.new (escaped bytes.now) }
 {
     let mut rest = bytes;
     while let Some(at) = first_escaped(rest) {
@@ -136,7 +131,7 @@ fn is_escaped(byte: u8) -> bool
 /// Bytes that are a text, as they are.
 fn push_text(text: &mut String, bytes: &[u8]) -> Result<(), AllocError>
     requires { IsUtf8 bytes.now }
-    ensures { OnOk result (string_bytes text.new ≡ string_bytes text.old ++ bytes.now) }
+    ensures { AddsText result text.old text.new bytes.now }
 {
     if bytes.is_empty() {
         return Ok(());
@@ -147,7 +142,7 @@ fn push_text(text: &mut String, bytes: &[u8]) -> Result<(), AllocError>
 /// A byte that is printed as an escape.
 fn push_escape(text: &mut String, byte: u8) -> Result<(), AllocError>
     requires { is_escaped byte ≡ true }
-    ensures { OnOk result (string_bytes text.new ≡ string_bytes text.old ++ escape byte) }
+    ensures { AddsText result text.old text.new (escape byte) }
 {
     match byte {
         b'\\' => text.push_str("\\\\"),
@@ -160,7 +155,7 @@ fn push_escape(text: &mut String, byte: u8) -> Result<(), AllocError>
 
 /// A byte by its two hexadecimal digits.
 fn push_hex(text: &mut String, byte: u8) -> Result<(), AllocError>
-    ensures { OnOk result (string_bytes text.new ≡ string_bytes text.old ++ hex_text byte) }
+    ensures { AddsText result text.old text.new (hex_text byte) }
 {
     write!(text, "\\x{byte:02x}")
 }

@@ -1,11 +1,11 @@
 //! Scripts of events.
-ghost use Rattle.std.specs.Prelude.{◌≡◌, ◌==◌, ◌<◌, [], ◌∷◌, ◌++◌, length, slice_get, option_map, MatchOption};
+ghost use Rattle.std.specs.Prelude.{◌≡◌, slice_get, IfOk, IfErr, OnOk};
 ghost use Rattle.refusals.specs.Refused.{refused};
-ghost use Rattle.std.specs.Prelude.{IfSome, IfOk, IfErr, OnOk, vec_len};
-ghost use Rattle.std.specs.List.{slice_split};
 ghost use Rattle.ports_script.specs.declared.script.ScriptFault.TheVariants as faults;
 ghost use Rattle.ports_script.specs.Entries.{shown};
-ghost use Rattle.ports_script.specs.Scripts.{Reading, script_of, with_line, put_before, numbered, IsFaultOf, ReadsScript, FailsToRead};
+ghost use Rattle.ports_script.specs.Scripts.{script_of, numbered, IsFaultOf, FailsToRead, GivesScript, GivesReading};
+ghost use Rattle.ports_script.specs.Scripts.{IsPaired, LendsEntry, AddsEntry, AddsLine, FailsAtLine, FailsForMemory};
+ghost use Rattle.ports_script.specs.Scripts.{CutsFirstLine, LeavesLess};
 
 use crate::entries::read_event;
 use crate::input::read_input;
@@ -53,8 +53,7 @@ impl Script {
     /// The event at this place of the script, with its line before it. `None` if the
     /// script ends before this place.
     pub fn entry(&self, index: usize) -> Option<(u64, &Event)>
-        ensures { option_map (λ entry. (entry.0, shown entry.1.now)) result
-            ≡ slice_get (numbered self.now) index }
+        ensures { LendsEntry result (slice_get (numbered self.now) index) }
     {
         let line = self.lines.get(index)?;
         let event = self.events.get(index)?;
@@ -63,11 +62,10 @@ impl Script {
 
     /// Adds an event with its line. The only error is `Memory`.
     fn push(&mut self, line: u64, event: Event) -> Result<(), ScriptFault>
-        requires { vec_len self.old.lines ≡ vec_len self.old.events }
-        ensures added { OnOk result (numbered self.new ≡ numbered self.old
-            ++ (line, shown event) ∷ []) }
-        ensures paired { OnOk result (vec_len self.new.lines ≡ vec_len self.new.events) }
-        ensures err { IfErr result (λ fault. fault ≡ faults.Memory refused) }
+        requires { IsPaired self.old }
+        ensures added { AddsEntry result self.old self.new (line, shown event) }
+        ensures paired { OnOk result (IsPaired self.new) }
+        ensures err { FailsForMemory result }
     {
         self.lines.push(line)?;
         self.events.push(event)?;
@@ -82,10 +80,9 @@ impl Script {
 /// failed is a bad one. So is the last line so far, if the input hasn't ended after 4,294,967,296 reads.
 /// The error is `Memory` if there is none for the bytes or for the events.
 pub fn read_script<R: Read>(alloc: Global, reader: &mut R) -> Result<Script, ScriptFault>
-    ensures ok { IfOk result (λ script. ReadsScript (R.remaining reader.old)
-        (R.remaining reader.new) (numbered script)) }
+    ensures ok { GivesScript result (R.remaining reader.old) (R.remaining reader.new) }
     ensures err { IfErr result (FailsToRead (R.remaining reader.old) (R.remaining reader.new)) }
-    ensures paired { IfOk result (λ script. vec_len script.lines ≡ vec_len script.events) }
+    ensures paired { IfOk result IsPaired }
 {
     let given = read_input(alloc, reader)?;
     read_lines(alloc, given.text.as_slice(), given.whole)
@@ -93,8 +90,8 @@ pub fn read_script<R: Read>(alloc: Global, reader: &mut R) -> Result<Script, Scr
 
 /// The events of a script's text. If the text isn't whole, its last line is a bad one.
 fn read_lines(alloc: Global, text: &[u8], whole: bool) -> Result<Script, ScriptFault>
-    ensures ok { IfOk result (λ script. script_of whole text.now ≡ Ok (numbered script)) }
-    ensures paired { IfOk result (λ script. vec_len script.lines ≡ vec_len script.events) }
+    ensures ok { GivesReading result (script_of whole text.now) }
+    ensures paired { IfOk result IsPaired }
     ensures err { IfErr result (IsFaultOf (script_of whole text.now)) }
 {
     let mut script = Script {
@@ -118,10 +115,8 @@ fn read_lines(alloc: Global, text: &[u8], whole: bool) -> Result<Script, ScriptF
 /// The first line of a text, and the text after the line feed that ends it. `None` if
 /// the text has no line feed.
 fn first_line(text: &[u8]) -> Option<(&[u8], &[u8])>
-    ensures lines { MatchOption result (slice_split (λ byte. byte == 10) text.now ≡ text.now ∷ [])
-        (λ parts. slice_split (λ byte. byte == 10) text.now
-        ≡ parts.0.now ∷ slice_split (λ byte. byte == 10) parts.1.now) }
-    ensures shorter { IfSome result (λ parts. length parts.1.now < length text.now) }
+    ensures lines { CutsFirstLine result text.now }
+    ensures shorter { LeavesLess result text.now }
 {
     let end = text.iter().position(|byte| *byte == b'\n')?;
     Some((&text[..end], &text[end + 1..]))
@@ -129,13 +124,10 @@ fn first_line(text: &[u8]) -> Option<(&[u8], &[u8])>
 
 /// Adds the event of a line, unless the line is passed over.
 fn push_line(alloc: Global, script: &mut Script, line: u64, text: &[u8]) -> Result<(), ScriptFault>
-    requires { vec_len script.old.lines ≡ vec_len script.old.events }
-    ensures ok { OnOk result ((later : Reading)
-        → put_before (numbered script.old) (with_line line text.now later)
-        ≡ put_before (numbered script.new) later) }
-    ensures paired { OnOk result (vec_len script.new.lines ≡ vec_len script.new.events) }
-    ensures err { IfErr result (λ fault. (later : Reading)
-        → IsFaultOf (with_line line text.now later) fault) }
+    requires { IsPaired script.old }
+    ensures ok { AddsLine result script.old script.new line text.now }
+    ensures paired { OnOk result (IsPaired script.new) }
+    ensures err { FailsAtLine result line text.now }
 {
     if text.is_empty() || text.starts_with(b"#") {
         return Ok(());

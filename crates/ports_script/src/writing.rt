@@ -1,8 +1,7 @@
 //! Bytes written to their end.
-ghost use Rattle.std.specs.Prelude.{◌≢◌, OnOk, OnErr, IfErr};
-ghost use Rattle.std.specs.Io.KnownBytes.{Appends};
+ghost use Rattle.std.specs.Prelude.{◌≢◌, IfErr};
 ghost use Rattle.std.specs.IoError.{error_kind};
-ghost use Rattle.ports_script.specs.Writing.{AppendsFront};
+ghost use Rattle.ports_script.specs.Writing.{WritesAll, FailsAfterFront};
 
 use std::io::{self, ErrorKind, Write};
 
@@ -12,9 +11,8 @@ use std::io::{self, ErrorKind, Write};
 /// The error is that of the write that failed or took nothing. Up to there a front of the bytes was
 /// written. If there are no bytes, nothing fails.
 pub fn write_whole<W: Write>(out: &mut W, bytes: &[u8]) -> io::Result<()>
-    ensures written { OnOk result (Appends (W.contents out.old) (W.contents out.new) bytes.now) }
-    ensures front { OnErr result (AppendsFront (W.contents out.old)
-        (W.contents out.new) bytes.now) }
+    ensures written { WritesAll W.contents result out.old out.new bytes.now }
+    ensures front { FailsAfterFront W.contents result out.old out.new bytes.now }
     ensures retried { IfErr result (λ error. error_kind error ≢ ErrorKind.Interrupted) }
 {
     let mut done = 0;
