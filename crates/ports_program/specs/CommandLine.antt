@@ -1,5 +1,8 @@
 -- What the words of a command line ask for.
 use Rattle.std.specs.Prelude.{◌≡◌, ◌⊎◌, ℕ, pos, true, List, [], Option, Some, None, unwrap_or, option_and_then, if◌then◌else◌, codes}
+use Rattle.std.specs.Prelude.{String, map, string_bytes}
+use Rattle.std.specs.Process.{exit_status}
+use Rattle.std.specs.declared.process.ExitCode.{ExitCode}
 use Rattle.std.specs.Str.Parse.{digits_value, without_leading_plus}
 use Rattle.std.specs.Io.KnownBytes.{Keeps}
 use Rattle.clap.specs.Lexer.{usize_max}
@@ -158,3 +161,17 @@ Runs After ListensOn words streams unsaid said status =
     × FinishesAsked After ListensOn invocation streams unsaid said status)
     ⊎ ((kind : ErrorKind) × ((kind ≡ errors.OutOfMemory) ⊎ IsAmong kind (fault_of portsd words))
     × Keeps streams.unread streams.left × EndsUnasked kind streams.held streams.holds unsaid said status)
+
+-- what a stream holds before and after, by what tells its bytes
+abbrev pub seen : {E : Type 0} → (E → Option (List ℕ)) → E → E → Option (List ℕ) × Option (List ℕ)
+seen contents old new = (contents old, contents new)
+
+-- the same of words as the system gives them, and of what is seen of standard error
+abbrev pub RunsOver : {W Z : Type 0} → (W → Call → W → Type 0) → (ℕ → W → Type 0) → List (String Z) → Streams
+    → Option (List ℕ) × Option (List ℕ) → ℕ → Type 0
+RunsOver After ListensOn words streams errors status = Runs After ListensOn (map string_bytes words) streams errors.0 errors.1 status
+
+-- the same, where the status is in what `main` returns
+abbrev pub RunsMain : {W Z : Type 0} → (W → Call → W → Type 0) → (ℕ → W → Type 0) → List (String Z) → Streams
+    → Option (List ℕ) × Option (List ℕ) → ExitCode → Type 0
+RunsMain After ListensOn words streams errors code = RunsOver After ListensOn words streams errors (exit_status code)

@@ -1,5 +1,5 @@
 -- What is printed after the events of a script were run, and the failure that it ends with.
-use Rattle.std.specs.Prelude.{◌≡◌, ◌⊎◌, ℕ, List, slice_index, Option, Result, Ok, Err}
+use Rattle.std.specs.Prelude.{◌≡◌, ◌⊎◌, ℕ, List, slice_index, Option, Result, Ok, Err, OnOk, IfErr}
 use Rattle.std.specs.Io.KnownBytes.{Appends, Keeps}
 use Rattle.ports_core.specs.declared.history.Transcript.{Transcript}
 use Rattle.ports_core.specs.declared.history.ReplayFault.{ReplayFault}
@@ -29,3 +29,13 @@ FailsAfter script (Err (run.NotAllowed index done)) held holds failure =
     × Appends held holds (transcript (numbered script) done.steps.items))
 FailsAfter script (Err (run.New why)) held holds failure = (failure ≡ new_failure why) × Keeps held holds
 FailsAfter script (Err (run.Memory _)) held holds failure = (failure ≡ Memory refused) × Keeps held holds
+
+-- where a function succeeds, all events of a run happened, and their effects are printed
+abbrev pub ReportsRun : {W O A E : Type 0} → Result A E → Script → Result (Transcript W) (ReplayFault W)
+    → (O → Option (List ℕ)) → O → O → Type 0
+ReportsRun result script ran contents old new = OnOk result (PrintsRun script ran (contents old) (contents new))
+
+-- where a function fails, its failure is the one after this run
+abbrev pub FailsByRun : {W O A : Type 0} → Result A Failure → Script → Result (Transcript W) (ReplayFault W)
+    → (O → Option (List ℕ)) → O → O → Type 0
+FailsByRun result script ran contents old new = IfErr result (FailsAfter script ran (contents old) (contents new))

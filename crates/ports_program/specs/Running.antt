@@ -1,5 +1,5 @@
 -- How a run ends.
-use Rattle.std.specs.Prelude.{◌≡◌, ◌⊎◌, ℕ, true, false, List, slice_get, Option, Some}
+use Rattle.std.specs.Prelude.{◌≡◌, ◌⊎◌, ℕ, true, false, List, slice_get, Option, Some, Result, OnOk, OnErr, IfErr}
 use Rattle.std.specs.Io.KnownBytes.{Appends, Keeps}
 use Rattle.ports_core.specs.declared.keys.Config.{Config}
 use Rattle.ports_core.specs.Effects.{Effect}
@@ -26,6 +26,10 @@ pub record Streams : Type 0 where
 -- such streams, of which these are the bytes
 abbrev pub run_streams : Option (List ℕ) → Option (List ℕ) → Option (List ℕ) → Option (List ℕ) → Streams
 run_streams unread left held holds = record { unread = unread; left = left; held = held; holds = holds }
+
+-- the bytes that a reader and a writer have before a run and after it, by what tells the bytes of each
+abbrev pub io_bytes : {R O : Type 0} → (R → Option (List ℕ)) → R → R → (O → Option (List ℕ)) → O → O → Streams
+io_bytes remaining old new contents out_old out_new = run_streams (remaining old) (remaining new) (contents out_old) (contents out_new)
 
 -- The events of a script happen one after another. Each tenant gets the replies that a plain service of its
 -- own would give. On each connection the replies to what it asks are written.
@@ -118,3 +122,27 @@ FailsToPrint held holds bytes CannotListen = ⊥
 FailsToPrint held holds bytes CannotWrite = AppendsFront held holds bytes
 FailsToPrint held holds bytes (Store _) = ⊥
 FailsToPrint held holds bytes (Memory _) = Keeps held holds
+
+-- what is printed of a script after its events had these effects
+abbrev pub run_text : Script → List Effect → List ℕ
+run_text script steps = transcript (numbered script) steps
+
+-- where a function succeeds, these bytes are added to what a writer holds
+abbrev pub Prints : {O A E : Type 0} → Result A E → List ℕ → (O → Option (List ℕ)) → O → O → Type 0
+Prints result bytes contents old new = OnOk result (Appends (contents old) (contents new) bytes)
+
+-- where a function fails, a front of these bytes is added
+abbrev pub PrintsPart : {O A E : Type 0} → Result A E → List ℕ → (O → Option (List ℕ)) → O → O → Type 0
+PrintsPart result bytes contents old new = OnErr result (AppendsFront (contents old) (contents new) bytes)
+
+-- where a function fails, these bytes aren't printed, or only a front of them is
+abbrev pub CutsShort : {O A : Type 0} → Result A Failure → List ℕ → (O → Option (List ℕ)) → O → O → Type 0
+CutsShort result bytes contents old new = IfErr result (FailsToPrint (contents old) (contents new) bytes)
+
+-- where a function succeeds, all events of a script happen, and their effects are printed
+abbrev pub RunsScript : {O A E : Type 0} → Result A E → Config → Script → (O → Option (List ℕ)) → O → O → Type 0
+RunsScript result config script contents old new = OnOk result (PrintsWhole config script (contents old) (contents new))
+
+-- where a function fails, the events of a script end early by its failure
+abbrev pub EndsScriptEarly : {O A : Type 0} → Result A Failure → Config → Script → (O → Option (List ℕ)) → O → O → Type 0
+EndsScriptEarly result config script contents old new = IfErr result (EventsEnd config script (contents old) (contents new))

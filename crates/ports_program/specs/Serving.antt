@@ -1,5 +1,5 @@
 -- How a service for clients ends.
-use Rattle.std.specs.Prelude.{◌≡◌, ◌⊎◌, ℕ, true, false, List, codes, Option}
+use Rattle.std.specs.Prelude.{◌≡◌, ◌⊎◌, ℕ, true, false, List, codes, Option, Result, IfErr, IsErrAnd}
 use Rattle.std.specs.Io.KnownBytes.{Appends, Keeps}
 use Rattle.ports_core.specs.Keys.{is_fit, key_texts}
 use Rattle.ports_core.specs.Sharing.{sizes_of}
@@ -23,6 +23,10 @@ ready_text = codes "portsd: ready\n"
 abbrev pub listen_failure : ListenFault → Failure
 listen_failure listening.Port = CannotListen
 listen_failure (listening.Memory refused) = Memory refused
+
+-- where a function fails, nothing began to listen, and its failure says why
+abbrev pub FailsToListen : {A W : Type 0} → Result A Failure → Result W ListenFault → Type 0
+FailsToListen result begun = IfErr result (λ failure. IsErrAnd begun (λ fault. failure ≡ listen_failure fault))
 
 -- A service that begins with the config serves all rounds over a wire that listens on the port, and it
 -- has said that it is ready.
@@ -52,6 +56,10 @@ EndsServing ListensOn serving held holds CannotWrite =
 EndsServing ListensOn serving held holds (Store _) = (is_fit serving.config ≡ true) × Keeps held holds
 EndsServing ListensOn serving held holds (Memory _) =
     (is_fit serving.config ≡ true) × (Keeps held holds ⊎ (Listens ListensOn serving × Appends held holds ready_text))
+
+-- where a function fails, the service ends early by its failure
+abbrev pub FailsToServe : {W O A : Type 0} → Result A Failure → (ℕ → W → Type 0) → Serving → (O → Option (List ℕ)) → O → O → Type 0
+FailsToServe result ListensOn serving contents old new = IfErr result (EndsServing ListensOn serving (contents old) (contents new))
 
 -- How it ends. It ends with status 0 after the last round, and nothing is said. Or a failure ended it: the
 -- status is the failure's, and its text is said as far as standard error takes it.

@@ -1,9 +1,7 @@
 //! One run of the program.
-ghost use Rattle.std.specs.Prelude.{map, string_bytes};
-ghost use Rattle.std.specs.Process.{exit_status};
 ghost use Rattle.clap.specs.Words.{kind_of};
-ghost use Rattle.ports_program.specs.CommandLine.{EndsUnasked, Runs};
-ghost use Rattle.ports_program.specs.Running.{run_streams};
+ghost use Rattle.ports_program.specs.CommandLine.{seen, EndsUnasked, RunsMain, RunsOver};
+ghost use Rattle.ports_program.specs.Running.{io_bytes};
 
 use crate::command_line::{Invocation, read_command};
 use crate::running::run_config;
@@ -35,9 +33,9 @@ pub fn run_command<K: Tenants, R: Read, O: Write, E: Write, L: Listen>(
     err: &mut E,
     net: &L,
 ) -> u8
-    ensures { Runs L.Wire.after L.listens_on (map string_bytes words.now)
-        (run_streams (R.remaining reader.old) (R.remaining reader.new)
-        (O.contents out.old) (O.contents out.new)) (E.contents err.old) (E.contents err.new) result }
+    ensures { RunsOver L.Wire.after L.listens_on words.now
+        (io_bytes R.remaining reader.old reader.new O.contents out.old out.new)
+        (seen E.contents err.old err.new) result }
 {
     match read_command(alloc, words) {
         Ok(Invocation::Replay(config)) => run_config::<K, R, O, E>(alloc, config, reader, out, err),
@@ -55,9 +53,9 @@ pub fn run_program<K: Tenants, R: Read, O: Write, E: Write, L: Listen>(
     err: &mut E,
     net: &L,
 ) -> ExitCode
-    ensures { Runs L.Wire.after L.listens_on (map string_bytes words.now)
-        (run_streams (R.remaining reader.old) (R.remaining reader.new)
-        (O.contents out.old) (O.contents out.new)) (E.contents err.old) (E.contents err.new) (exit_status result) }
+    ensures { RunsMain L.Wire.after L.listens_on words.now
+        (io_bytes R.remaining reader.old reader.new O.contents out.old out.new)
+        (seen E.contents err.old err.new) result }
 {
     let status = run_command::<K, R, O, E, L>(alloc, words, reader, out, err, net);
     ExitCode::from(status)

@@ -1,11 +1,9 @@
 //! One run of a script.
 ghost use Rattle.std.specs.Prelude.{◌≡◌, true, OnOk, IfErr, vec_len};
-ghost use Rattle.std.specs.Io.KnownBytes.{Appends};
 ghost use Rattle.ports_core.specs.Keys.{is_fit};
-ghost use Rattle.ports_script.specs.Scripts.{numbered};
-ghost use Rattle.ports_script.specs.Printing.{transcript};
-ghost use Rattle.ports_program.specs.Running.{run_streams, Completes, Ends, PrintsWhole, EventsEnd, Finishes, FailsToPrint};
-ghost use Rattle.ports_program.specs.Reporting.{PrintsRun, FailsAfter};
+ghost use Rattle.ports_program.specs.Running.{io_bytes, run_text, Completes, CutsShort, Ends, EndsScriptEarly, Finishes};
+ghost use Rattle.ports_program.specs.Running.{Prints, RunsScript};
+ghost use Rattle.ports_program.specs.Reporting.{FailsByRun, ReportsRun};
 
 use ports_core::{Config, ReplayFault, Step, Tenants, Transcript, replay};
 use ports_script::{DONE, Failure, Script, read_script, report, transcript_text, write_whole};
@@ -27,8 +25,8 @@ pub fn run_config<K: Tenants, R: Read, O: Write, E: Write>(
     out: &mut O,
     err: &mut E,
 ) -> u8
-    ensures { Finishes config (run_streams (R.remaining reader.old) (R.remaining reader.new)
-        (O.contents out.old) (O.contents out.new)) (E.contents err.old) (E.contents err.new) result }
+    ensures { Finishes config (io_bytes R.remaining reader.old reader.new O.contents out.old out.new)
+        (E.contents err.old) (E.contents err.new) result }
 {
     match run::<K, R, O>(alloc, config, reader, out) {
         Ok(()) => DONE,
@@ -44,10 +42,10 @@ fn run<K: Tenants, R: Read, O: Write>(
     reader: &mut R,
     out: &mut O,
 ) -> Result<(), Failure>
-    ensures done { OnOk result (Completes config (run_streams (R.remaining reader.old)
-        (R.remaining reader.new) (O.contents out.old) (O.contents out.new))) }
-    ensures failed { IfErr result (Ends config (run_streams (R.remaining reader.old)
-        (R.remaining reader.new) (O.contents out.old) (O.contents out.new))) }
+    ensures done { OnOk result (Completes config
+        (io_bytes R.remaining reader.old reader.new O.contents out.old out.new)) }
+    ensures failed { IfErr result (Ends config
+        (io_bytes R.remaining reader.old reader.new O.contents out.old out.new)) }
 {
     if !config.is_fit() {
         return Err(Failure::BadKey);
@@ -66,10 +64,8 @@ fn run_script<K: Tenants, O: Write>(
 ) -> Result<(), Failure>
     requires fit { is_fit config ≡ true }
     requires paired { vec_len script.now.lines ≡ vec_len script.now.events }
-    ensures done { OnOk result (PrintsWhole config script.now (O.contents out.old)
-        (O.contents out.new)) }
-    ensures failed { IfErr result (EventsEnd config script.now (O.contents out.old)
-        (O.contents out.new)) }
+    ensures done { RunsScript result config script.now O.contents out.old out.new }
+    ensures failed { EndsScriptEarly result config script.now O.contents out.old out.new }
 {
     let ran = replay::<K>(alloc, config, script.events.as_slice());
     print_run(alloc, script, ran, out)
@@ -83,10 +79,8 @@ fn print_run<K: Tenants, O: Write>(
     ran: Result<Transcript<K>, ReplayFault<K>>,
     out: &mut O,
 ) -> Result<(), Failure>
-    ensures done { OnOk result (PrintsRun script.now ran (O.contents out.old)
-        (O.contents out.new)) }
-    ensures failed { IfErr result (FailsAfter script.now ran (O.contents out.old)
-        (O.contents out.new)) }
+    ensures done { ReportsRun result script.now ran O.contents out.old out.new }
+    ensures failed { FailsByRun result script.now ran O.contents out.old out.new }
 {
     match ran {
         Ok(done) => print(alloc, script, done.steps.as_slice(), out),
@@ -107,10 +101,8 @@ fn print<O: Write>(
     steps: &[Step],
     out: &mut O,
 ) -> Result<(), Failure>
-    ensures done { OnOk result (Appends (O.contents out.old) (O.contents out.new)
-        (transcript (numbered script.now) steps.now)) }
-    ensures failed { IfErr result (FailsToPrint (O.contents out.old) (O.contents out.new)
-        (transcript (numbered script.now) steps.now)) }
+    ensures done { Prints result (run_text script.now steps.now) O.contents out.old out.new }
+    ensures failed { CutsShort result (run_text script.now steps.now) O.contents out.old out.new }
 {
     let text = transcript_text(alloc, script, steps)?;
     match write_whole(out, text.as_bytes()) {

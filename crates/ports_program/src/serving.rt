@@ -1,9 +1,8 @@
 //! One run of a service for clients.
-ghost use Rattle.std.specs.Prelude.{◌≡◌, Ok, IfOk, IfErr, IsErrAnd, OnOk, OnErr};
-ghost use Rattle.std.specs.Io.KnownBytes.{Appends};
+ghost use Rattle.std.specs.Prelude.{◌≡◌, Ok, IfOk, IfErr, OnOk};
 ghost use Rattle.ports_script.specs.declared.failure.Failure.TheVariants as failures;
-ghost use Rattle.ports_script.specs.Writing.{AppendsFront};
-ghost use Rattle.ports_program.specs.Serving.{ready_text, listen_failure, Serves, EndsServing, FinishesServing};
+ghost use Rattle.ports_program.specs.Running.{Prints, PrintsPart};
+ghost use Rattle.ports_program.specs.Serving.{ready_text, FailsToListen, FailsToServe, FinishesServing, Serves};
 
 use crate::command_line::Serving;
 use ports_core::{Service, Tenants};
@@ -16,8 +15,7 @@ use std::io::Write;
 /// memory ran out.
 fn listening<W>(begun: Result<W, ListenFault>) -> Result<W, Failure>
     ensures listens { IfOk result (λ wire. begun ≡ Ok wire) }
-    ensures fails { IfErr result (λ failure. IsErrAnd begun
-        (λ fault. failure ≡ listen_failure fault)) }
+    ensures fails { FailsToListen result begun }
 {
     match begun {
         Ok(wire) => Ok(wire),
@@ -59,8 +57,7 @@ fn serve_clients<K: Tenants, L: Listen, O: Write>(
 ) -> Result<(), Failure>
     ensures done { OnOk result (Serves L.Wire.after L.listens_on serving (O.contents out.old)
         (O.contents out.new)) }
-    ensures failed { IfErr result (EndsServing L.listens_on serving (O.contents out.old)
-        (O.contents out.new)) }
+    ensures failed { FailsToServe result L.listens_on serving O.contents out.old out.new }
 {
     let Serving {
         port,
@@ -76,10 +73,9 @@ fn serve_clients<K: Tenants, L: Listen, O: Write>(
 
 /// Says that clients are served.
 fn say_ready<O: Write>(out: &mut O) -> Result<(), Failure>
-    ensures said { OnOk result (Appends (O.contents out.old) (O.contents out.new) ready_text) }
+    ensures said { Prints result ready_text O.contents out.old out.new }
     ensures fails { IfErr result (λ failure. failure ≡ failures.CannotWrite) }
-    ensures front { OnErr result (AppendsFront (O.contents out.old)
-        (O.contents out.new) ready_text) }
+    ensures front { PrintsPart result ready_text O.contents out.old out.new }
 {
     match write_whole(out, "portsd: ready\n".as_bytes()) {
         Ok(()) => Ok(()),
