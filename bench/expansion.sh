@@ -1,12 +1,13 @@
 #!/usr/bin/env bash
 # Compares the time that portsd takes for makefiles with that of a plain program (plain_make.rs, built by
 # rustc): a file whose one line spends 49,984 references, and files of 65,536 bytes of assignments. Each
-# is evaluated so many times; prints both times and the ratio.
+# is evaluated so many times; prints both times and the ratio. portsd's time is without storing the files.
 set -eu
 top=$(cd "$(dirname "$0")/.." && pwd)
 work=$(mktemp -d)
 trap 'rm -rf "$work"' EXIT
 source "$top/bench/programs.sh" && find_portsd
+source "$top/bench/makefile_scripts.sh"
 rustc -O -o "$work/plain_make" "$top/bench/plain_make.rs"
 
 # seconds INPUT COMMAND..: of the best of five runs with this input
@@ -21,26 +22,20 @@ seconds() {
     done | sort -n | head -1 | awk '{ printf "%.4f", $1 / 1000000 }'
 }
 
-# script FILE VARIABLE TIMES: stores the file, and asks so many times for the variable
-script() {
-    echo "open 0"
-    echo "piece 0 PUT /v1/file?name=/ports/a/b/Makefile HTTP/1.1\\r\\nHost: x\\r\\nX-Ports-Key: alpha\\r\\nContent-Length: $(wc -c <"$1")\\r\\n\\r\\n$(awk '{ printf "%s\\n", $0 }' "$1")"
-    echo "turn 0"
-    echo "wrote 0 all"
-    for _ in $(seq "$3"); do
-        echo "piece 0 GET /v1/var?path=a/b&name=$2 HTTP/1.1\\r\\nHost: x\\r\\nX-Ports-Key: alpha\\r\\n\\r\\n"
-        echo "turn 0"
-        echo "wrote 0 all"
-    done
-}
-
 # compare TITLE FILE VARIABLE TIMES
 compare() {
-    script "$2" "$3" "$4" >"$work/script"
-    local ours plain
+    evaluations "$2" "$4" "$3" >"$work/script"
+    evaluations "$2" "$4" >"$work/stored"
+    local ours stored plain
+    stored=$(seconds "$work/stored" "$portsd" replay alpha)
     ours=$(seconds "$work/script" "$portsd" replay alpha)
+    if [ "$(grep -c ' told 0 0 200$' "$work/out")" != $((2 * $4)) ]; then
+        echo "a request wasn't answered by 200" >&2
+        return 1
+    fi
     plain=$(seconds /dev/null "$work/plain_make" "$2" "$3" "$4")
-    awk -v title="$1" -v times="$4" -v ours="$ours" -v plain="$plain" 'BEGIN {
+    awk -v title="$1" -v times="$4" -v ours="$ours" -v stored="$stored" -v plain="$plain" 'BEGIN {
+        ours -= stored
         printf "%s, %d times: portsd %.4f s, plain %.4f s, ratio %.1f\n", title, times, ours, plain, ours / plain }'
 }
 

@@ -6,6 +6,7 @@ top=$(cd "$(dirname "$0")/.." && pwd)
 work=$(mktemp -d)
 trap 'rm -rf "$work"' EXIT
 source "$top/bench/programs.sh" && find_portsd
+source "$top/bench/makefile_scripts.sh"
 
 # seconds FILE: of the best of three runs of the script
 seconds() {
@@ -18,20 +19,9 @@ seconds() {
     done | sort -n | head -1 | awk '{ printf "%.3f", $1 / 1000000 }'
 }
 
-# An upload of a file of one-letter assignments, and then so many times the value of a variable of it:
-# each is an evaluation of the whole file.
-makefile_script() {
-    local bytes=$1 asks=200 body
-    body=$(awk -v n=$((bytes / 4)) 'BEGIN { for (i = 0; i < n; i++) printf "%c=x\\n", 97 + i % 26 }')
-    echo "open 0"
-    echo "piece 0 PUT /v1/file?name=/ports/a/b/Makefile HTTP/1.1\\r\\nHost: x\\r\\nX-Ports-Key: alpha\\r\\nContent-Length: $((bytes / 4 * 4))\\r\\n\\r\\n$body"
-    echo "turn 0"
-    echo "wrote 0 all"
-    for _ in $(seq $asks); do
-        echo "piece 0 GET /v1/var?path=a/b&name=a HTTP/1.1\\r\\nHost: x\\r\\nX-Ports-Key: alpha\\r\\n\\r\\n"
-        echo "turn 0"
-        echo "wrote 0 all"
-    done
+# A file of one-letter assignments of so many bytes.
+makefile() {
+    awk -v n=$(($1 / 4)) 'BEGIN { for (i = 0; i < n; i++) printf "%c=x\n", 97 + i % 26 }'
 }
 
 lines_script() {
@@ -39,9 +29,10 @@ lines_script() {
     awk -v n="$1" 'BEGIN { for (i = 1; i < n; i++) print "turn 0" }'
 }
 
-echo "a makefile of so many bytes, evaluated 200 times"
+echo "a makefile of so many bytes, stored and evaluated 200 times"
 for bytes in 16384 32768 65536; do
-    makefile_script $bytes >"$work/script"
+    makefile $bytes >"$work/makefile"
+    evaluations "$work/makefile" 200 a >"$work/script"
     echo "$bytes bytes  $(seconds "$work/script") s"
 done
 echo "a script of so many lines"
