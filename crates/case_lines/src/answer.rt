@@ -45,6 +45,7 @@ pub struct Answer {
 }
 
 impl Answer {
+    /// An answer that says nothing yet, for which there was memory so far.
     pub fn new(alloc: Global) -> Answer {
         Answer {
             said: String::new(alloc),

@@ -3,7 +3,7 @@ ghost use Rattle.std.specs.Prelude.{◌≡◌, ◌+◌, IfOk, IfErr, OnOk, OnErr
 ghost use Rattle.std.specs.Io.{ReadsAtMost};
 ghost use Rattle.std.specs.Io.KnownBytes.{ReadConsumes};
 ghost use Rattle.std.specs.IoError.{error_kind};
-ghost use Rattle.case_lines.specs.Failing.{given_at_once};
+ghost use Rattle.case_lines.specs.FailingStreams.{given_at_once};
 
 use std::io::{self, ErrorKind, Read};
 

@@ -3,7 +3,7 @@ ghost use Rattle.std.specs.Prelude.{◌≡◌, ◌+◌, IfOk, IfErr, OnOk, OnErr
 ghost use Rattle.std.specs.Io.{WritesAtMost};
 ghost use Rattle.std.specs.Io.KnownBytes.{WriteAppends, Keeps};
 ghost use Rattle.std.specs.IoError.{error_kind};
-ghost use Rattle.case_lines.specs.Failing.{write_fault};
+ghost use Rattle.case_lines.specs.FailingStreams.{write_fault};
 
 use std::io::{self, ErrorKind, Write};
 

@@ -1,7 +1,7 @@
 -- Operands read one after another.
 use Rattle.std.proofs.Common.{◌≡◌, ◌<◌, ◌≤◌, ℕ, zero, suc, List, [], ◌∷◌, ◌++◌, length, Option, Some, None, IfSome, option_map, refl, sym, ap, ◌∙◌, arith, append_assoc, append-nil}
 use Rattle.cond_grammar.specs.declared.tokens.Token.{Token}
-use Rattle.cond_grammar.specs.Reading.{Reader, operand_on, operands_after, operands_by, operands}
+use Rattle.cond_grammar.specs.Reader.{Reader, operand_on, operands_after, operands_by, operands}
 
 -- what is read of these operands, where tokens are left
 abbrev pub continued : {A : Type 0} → (List Token → Option (List Token)) → Reader A → List A → List Token → Option (List A × List Token)

@@ -3,7 +3,7 @@ use Rattle.std.proofs.Common.{◌≡◌, ◌≤◌, ◌↔◌, IfSome, subst, �
 use Rattle.cond_grammar.specs.declared.tokens.Token.{Token}
 use Rattle.cond_grammar.specs.declared.tokens.Token.TheVariants as t
 use Rattle.cond_grammar.specs.Trees.{OrTree, OrOf, LaterAnds, NoAnds, MoreAnds, AndTree, AndOf, LaterNots, NoNots, MoreNots, NotTree, Negated, Grouped, Called, Compared, Alone, or_tokens, later_and_tokens, and_tokens, later_not_tokens, not_tokens, or_depth, later_and_depth, and_depth, later_not_depth, not_depth, IsTreeOf}
-use Rattle.cond_grammar.specs.Reading.{after_or, after_and, first_comparison, operand_on, operands_after, operands, later_nots, later_ands, chain_on, or_by, side_term, group, negate, inside_of, read_not, read_and, read_or, with_nothing_left, tree_of}
+use Rattle.cond_grammar.specs.Reader.{after_or, after_and, first_comparison, operand_on, operands_after, operands, later_nots, later_ands, chain_on, or_by, side_term, group, negate, inside_of, read_not, read_and, read_or, with_nothing_left, tree_of_tokens}
 use Rattle.cond_grammar.proofs.Chains.{operands-next}
 use Rattle.cond_grammar.proofs.Sound.{Takes, not-sound, or-sound, and-takes, or-takes, not-shrinks, and-shrinks}
 
@@ -129,7 +129,7 @@ mutual
       ∙ ap (option_map {U = OrTree × List Token} (λ y. (OrOf and y.0, y.1))) (later-and-complete more levels rest (omega arith) is parts ends)
 
 -- the tree of tokens is read
-pub tree-read : (limit : ℕ) (tokens : List Token) (tree : OrTree) → IsTreeOf limit tokens tree → tree_of limit tokens ≡ Some tree
+pub tree-read : (limit : ℕ) (tokens : List Token) (tree : OrTree) → IsTreeOf limit tokens tree → tree_of_tokens limit tokens ≡ Some tree
 tree-read limit tokens tree is =
     ap with_nothing_left (ap (read_or limit) (sym is.in_order ∙ sym (append-nil (or_tokens tree))) ∙ or-complete tree limit [] is.not_deep refl refl refl)
 
@@ -146,11 +146,11 @@ nothing_left limit tokens tree (Some (read, [])) h is = subst (IsTreeOf limit to
 nothing_left limit tokens tree (Some (read, token ∷ rest)) h is = absurd (none_some is)
 
 -- what is read is a tree of the tokens
-pub read-tree : (limit : ℕ) (tokens : List Token) (tree : OrTree) → tree_of limit tokens ≡ Some tree → IsTreeOf limit tokens tree
+pub read-tree : (limit : ℕ) (tokens : List Token) (tree : OrTree) → tree_of_tokens limit tokens ≡ Some tree → IsTreeOf limit tokens tree
 read-tree limit tokens tree is = nothing_left limit tokens tree (read_or limit tokens) (or-sound limit (read_not limit) (not-sound limit) tokens) is
 
 pub one-tree : (limit : ℕ) (tokens : List Token) (one other : OrTree) → IsTreeOf limit tokens one → IsTreeOf limit tokens other → one ≡ other
 one-tree limit tokens one other is also = same (sym (tree-read limit tokens one is) ∙ tree-read limit tokens other also)
 
-pub trees-read : (limit : ℕ) (tokens : List Token) (tree : OrTree) → IsTreeOf limit tokens tree ↔ (tree_of limit tokens ≡ Some tree)
+pub trees-read : (limit : ℕ) (tokens : List Token) (tree : OrTree) → IsTreeOf limit tokens tree ↔ (tree_of_tokens limit tokens ≡ Some tree)
 trees-read limit tokens tree = (tree-read limit tokens tree, read-tree limit tokens tree)

@@ -13,7 +13,7 @@ use Rattle.cond_grammar.specs.declared.tokens.Side.TheVariants.{Quoted, Bare}
 use Rattle.cond_grammar.specs.declared.tokens.Token.{Token}
 use Rattle.cond_grammar.specs.declared.tokens.Token.TheVariants as t
 use Rattle.cond_grammar.specs.Tokens.{is_stop, call_of}
-use Rattle.cond_grammar.specs.Scanning.{first_at, first_or_end, closing_place, word_token, word_at, blanks_end, begins, call_token, quoted_side, sign_at, pair_at, token_at, token_before, walk}
+use Rattle.cond_grammar.specs.Scanner.{place_of_first, first_or_end, closing_place, word_token, word_at, blanks_end, begins, call_token, quoted_side, sign_of_two_or_one, sign_of_two, token_at, token_before, walk}
 
 -- a byte that ends a side is there
 pub record StopAt (bytes : List ℕ) (at : ℕ) : Type 0 where
@@ -77,12 +77,12 @@ module _ (bytes : List ℕ) where
       side_on at b rest is (is_stop b) refl (side-edge (at + 1) rest (omega (arith, h.0)) h.2)
 
   -- a quote, and the parenthesis that closes, are bytes that end a side
-  quote_on : (at b : ℕ) (rest : List ℕ) → drop at bytes ≡ b ∷ rest → (test : Bool) → (b == 34) ≡ test → IfSome (first_at (λ c. c == 34) (at + 1) rest) (StopAt bytes)
-      → IfSome (cond test (Some at) (first_at (λ c. c == 34) (at + 1) rest)) (StopAt bytes)
+  quote_on : (at b : ℕ) (rest : List ℕ) → drop at bytes ≡ b ∷ rest → (test : Bool) → (b == 34) ≡ test → IfSome (place_of_first (λ c. c == 34) (at + 1) rest) (StopAt bytes)
+      → IfSome (cond test (Some at) (place_of_first (λ c. c == 34) (at + 1) rest)) (StopAt bytes)
   quote_on at b rest is true stop more = stop_at at b rest is (elim (eqb_tells b 34) [ inl same ↦ subst (λ n. is_stop n ≡ true) (sym same.1) refl | inr other ↦ absurd (cc (stop, other.0)) ])
   quote_on at b rest is false stop more = more
 
-  pub quote-stop : (at : ℕ) (text : List ℕ) → drop at bytes ≡ text → IfSome (first_at (λ c. c == 34) at text) (StopAt bytes)
+  pub quote-stop : (at : ℕ) (text : List ℕ) → drop at bytes ≡ text → IfSome (place_of_first (λ c. c == 34) at text) (StopAt bytes)
   quote-stop at [] is = tt
   quote-stop at (b ∷ rest) is = quote_on at b rest is (b == 34) refl (quote-stop (at + 1) rest (step bytes at b rest is).2)
 
@@ -108,9 +108,9 @@ module _ (bytes : List ℕ) where
   Edged (t.Call call span) = IsEdge bytes span.start × IsEdge bytes span.end × (span.start ≤ span.end)
   Edged token = Unit {0}
 
-  first_low : (p : ℕ → Bool) (at : ℕ) (text : List ℕ) → IfSome (first_at p at text) (λ end. at ≤ end)
+  first_low : (p : ℕ → Bool) (at : ℕ) (text : List ℕ) → IfSome (place_of_first p at text) (λ end. at ≤ end)
   first_low p at [] = tt
-  first_low p at (b ∷ rest) = low_on p at (p b) (first_at p (at + 1) rest) (first_low p (at + 1) rest)
+  first_low p at (b ∷ rest) = low_on p at (p b) (place_of_first p (at + 1) rest) (first_low p (at + 1) rest)
     where
       low_on : (p : ℕ → Bool) (at : ℕ) (test : Bool) (more : Option ℕ) → IfSome more (λ end. at + 1 ≤ end) → IfSome (cond test (Some at) more) (λ end. at ≤ end)
       low_on p at true more h = omega arith
@@ -148,12 +148,12 @@ module _ (bytes : List ℕ) where
       elim (eqb_tells c n) [ inl same ↦ stop_at at c rest is (subst (λ m. is_stop m ≡ true) (sym same.1) stop) | inr other ↦ absurd (cc (there, other.0)) ]
 
   sign_found : (at : ℕ) (rest : List ℕ) (two one : Token) (doubled : Bool) → StopAt bytes at → drop (at + 1) bytes ≡ rest → begins 61 rest ≡ doubled → Edged two → Edged one
-      → IfSome (sign_at at doubled two one) (Found at)
+      → IfSome (sign_of_two_or_one at doubled two one) (Found at)
   sign_found at rest two one true stop is there h k = (h, Behind (at + 1) (omega arith) (next_stop (at + 1) 61 rest is refl there), omega arith)
   sign_found at rest two one false stop is there h k = (k, after_stop at stop, omega arith)
 
   pair_found : (at n : ℕ) (rest : List ℕ) (two : Token) (doubled : Bool) → drop (at + 1) bytes ≡ rest → is_stop n ≡ true → begins n rest ≡ doubled → Edged two
-      → IfSome (pair_at at doubled two) (Found at)
+      → IfSome (sign_of_two at doubled two) (Found at)
   pair_found at n rest two true is stop there h = (h, Behind (at + 1) (omega arith) (next_stop (at + 1) n rest is stop there), omega arith)
   pair_found at n rest two false is stop there h = tt
 
@@ -220,7 +220,7 @@ module _ (bytes : List ℕ) where
                                                   | inl is ↦ rw is.0 (pair_found at 124 rest _ (begins 124 rest) refl refl refl tt)
                                                   | inr no124 ↦ rw no124.0 (
                                                       elim (eqb_tells b 34) [
-                                                        | inl is ↦ rw is.0 (quoted_found at (at + 1) (first_at (λ c. c == 34) (at + 1) rest) (omega arith) (after_stop at (stop_here at b 34 room there is.1 refl))
+                                                        | inl is ↦ rw is.0 (quoted_found at (at + 1) (place_of_first (λ c. c == 34) (at + 1) rest) (omega arith) (after_stop at (stop_here at b 34 room there is.1 refl))
                                                             (quote-stop (at + 1) rest refl) (first_low (λ c. c == 34) (at + 1) rest))
                                                         | inr no34 ↦ rw no34.0 (word_edged at b edge room)
                                                       ])

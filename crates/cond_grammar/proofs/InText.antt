@@ -4,7 +4,7 @@ use Rattle.std.specs.Str.{IsUtf8}
 use Rattle.std.proofs.lemmas.List.Elements.{All-weaker}
 use Rattle.mk_ref.specs.Outside.{outside}
 use Rattle.mk_ref.specs.Laws.{OutsideKeepsPlaces}
-use Rattle.mk_text.specs.declared.splitting.Span.{Span}
+use Rattle.mk_text.specs.declared.span.Span.{Span}
 use Rattle.mk_text.specs.Words.{IsSpanOf}
 use Rattle.cond_grammar.specs.declared.tokens.Side.TheVariants.{Quoted, Bare}
 use Rattle.cond_grammar.specs.declared.tokens.Token.{Token}

@@ -2,7 +2,7 @@
 use Rattle.std.proofs.Common.{◌≡◌, ℕ, zero, suc, ◌-◌, List, Option, None, refl, sym, ap, ◌∙◌, arith}
 use Rattle.cond_grammar.specs.declared.tokens.Token.{Token}
 use Rattle.cond_grammar.specs.Trees.{OrTree, NotTree}
-use Rattle.cond_grammar.specs.Reading.{Reader, negate, group, or_by, inside_of, negation_below, group_below, read_not, read_or}
+use Rattle.cond_grammar.specs.Reader.{Reader, negate, group, or_by, inside_of, negation_below, group_below, read_not, read_or}
 
 inside_zero : inside_of zero ≡ (λ tokens. None)
 unfolding inside_of

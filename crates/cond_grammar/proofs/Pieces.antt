@@ -9,7 +9,7 @@ use Rattle.cond_grammar.specs.declared.tokens.Side.TheVariants.{Bare}
 use Rattle.cond_grammar.specs.declared.tokens.Token.{Token}
 use Rattle.cond_grammar.specs.declared.tokens.Token.TheVariants as t
 use Rattle.cond_grammar.specs.Tokens.{Piece, spelling, blank_piece, sign_piece, word_piece, call_piece, begins_with, is_stop, cut_before, quoted_up_to, call_of, before_closing, call_or_word, word_or_call, first_piece, piece_before, pieces_by, place_inside, tokens_at, tokens_of}
-use Rattle.cond_grammar.specs.Scanning.{begins, first_at, first_or_end, closing_place, quoted_side, call_token, blanks_end, word_token, word_at, sign_at, pair_at, token_at, token_before, walk}
+use Rattle.cond_grammar.specs.Scanner.{begins, place_of_first, first_or_end, closing_place, quoted_side, call_token, blanks_end, word_token, word_at, sign_of_two_or_one, sign_of_two, token_at, token_before, walk}
 use Rattle.cond_grammar.proofs.Scans.{walk_passes}
 
 -- a token at a place, with the place after it, is that of a piece there
@@ -43,11 +43,11 @@ place_on : (at b : ℕ) (front rest : List ℕ) → place_of_cut (at + 1) front 
 place_on at b front [] = refl
 place_on at b front (c ∷ rest) = ap Some (omega arith)
 
-cut_place : (p : ℕ → Bool) (at : ℕ) (text : List ℕ) → first_at p at text ≡ place_of_cut at (cut_before p text).0 (cut_before p text).1
+cut_place : (p : ℕ → Bool) (at : ℕ) (text : List ℕ) → place_of_first p at text ≡ place_of_cut at (cut_before p text).0 (cut_before p text).1
 cut_place p at [] = refl
 cut_place p at (b ∷ rest) =
     let parts : Bool → List ℕ × List ℕ = λ v. cond v ([], b ∷ rest) (b ∷ (cut_before p rest).0, (cut_before p rest).1) in
-    elim (p b) as (λ v. cond v (Some at) (first_at p (at + 1) rest) ≡ place_of_cut at (parts v).0 (parts v).1) [
+    elim (p b) as (λ v. cond v (Some at) (place_of_first p (at + 1) rest) ≡ place_of_cut at (parts v).0 (parts v).1) [
       | true ↦ ap Some (omega arith)
       | false ↦ cut_place p (at + 1) rest ∙ place_on at b (cut_before p rest).0 (cut_before p rest).1
     ]
@@ -77,7 +77,7 @@ same_quoted at front (b ∷ rest) = (refl, omega (arith, length-append front (34
 
 -- a sign of two bytes, or of one; `other` isn't looked at
 same_sign : (at first second : ℕ) (two one : Token) (other : Option Piece) (rest : List ℕ)
-    → SamePiece at (sign_at at (begins second rest) two one)
+    → SamePiece at (sign_of_two_or_one at (begins second rest) two one)
     (option_or (cond (begins_with (second ∷ []) rest) (Some (sign_piece (first ∷ second ∷ []) two)) (Some (sign_piece (first ∷ []) one))) other)
 same_sign at first second two one other [] = (refl, refl, omega arith)
 same_sign at first second two one other (c ∷ rest) =
@@ -85,7 +85,7 @@ same_sign at first second two one other (c ∷ rest) =
 
 -- a sign that has two bytes
 same_pair : (at first second : ℕ) (two : Token) (rest : List ℕ)
-    → SamePiece at (pair_at at (begins second rest) two) (option_or (cond (begins_with (second ∷ []) rest) (Some (sign_piece (first ∷ second ∷ []) two)) None) None)
+    → SamePiece at (sign_of_two at (begins second rest) two) (option_or (cond (begins_with (second ∷ []) rest) (Some (sign_piece (first ∷ second ∷ []) two)) None) None)
 same_pair at first second two [] = tt
 same_pair at first second two (c ∷ rest) = elim (eqb_tells c second) [ inl is ↦ rw is.0 (refl, refl, omega arith) | inr other ↦ rw other.0 tt ]
 

@@ -6,7 +6,7 @@ use Rattle.cond_grammar.specs.declared.tokens.Side.TheVariants.{Bare}
 use Rattle.cond_grammar.specs.declared.tokens.Token.{Token}
 use Rattle.cond_grammar.specs.declared.tokens.Token.TheVariants as t
 use Rattle.cond_grammar.specs.Tokens.{is_stop, call_of}
-use Rattle.cond_grammar.specs.Scanning.{begins, first_or_end, closing_place, call_token, blanks_end, word_token, word_at, token_at, token_before, walk}
+use Rattle.cond_grammar.specs.Scanner.{begins, first_or_end, closing_place, call_token, blanks_end, word_token, word_at, token_at, token_before, walk}
 
 pub drop-next : (bytes : List ℕ) (at : ℕ) → at < length bytes → drop at bytes ≡ get_or bytes at 0 ∷ drop (at + 1) bytes
 drop-next bytes at room = drop-cons bytes at 0 room ∙ ap (λ n. get_or bytes at 0 ∷ drop n bytes) (sym (add-one at))

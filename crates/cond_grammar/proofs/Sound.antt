@@ -4,7 +4,7 @@ use Rattle.cond_grammar.specs.declared.tokens.Side.{Side}
 use Rattle.cond_grammar.specs.declared.tokens.Token.{Token}
 use Rattle.cond_grammar.specs.declared.tokens.Token.TheVariants as t
 use Rattle.cond_grammar.specs.Trees.{OrTree, OrOf, AndTree, AndOf, NotTree, or_tokens, later_and_tokens, and_tokens, later_not_tokens, not_tokens, or_depth, later_and_depth, and_depth, later_not_depth, not_depth}
-use Rattle.cond_grammar.specs.Reading.{Reader, after_or, after_and, after_right, first_comparison, operand_on, operands_after, operands_by, operands, later_nots, later_ands, chain_on, and_by, or_by, side_term, close_group, group, negate, inside_of, read_not, read_and}
+use Rattle.cond_grammar.specs.Reader.{Reader, after_or, after_and, after_right, first_comparison, operand_on, operands_after, operands_by, operands, later_nots, later_ands, chain_on, and_by, or_by, side_term, close_group, group, negate, inside_of, read_not, read_and}
 use Rattle.cond_grammar.proofs.Chains.{Shrinks, TakesSome}
 
 -- tokens taken off the front and those left are all of them

@@ -7,7 +7,7 @@ use Rattle.cond_grammar.specs.declared.condition.ConditionError.{ConditionError}
 use Rattle.cond_grammar.specs.declared.condition.ConditionError.TheVariants.{Unclosed, Unreadable, Memory}
 use Rattle.cond_grammar.specs.Tokens.{tokens_of}
 use Rattle.cond_grammar.specs.Trees.{OrTree, IsTreeOf}
-use Rattle.cond_grammar.specs.Reading.{tree_of}
+use Rattle.cond_grammar.specs.Reader.{tree_of_tokens}
 
 -- The tree of a text. Each reference of the text ends, and the text outside references is cut into the
 -- tokens of this tree. In the tree, no more than 64 `!` and parentheses are one inside another.
@@ -27,7 +27,7 @@ IsFaultOf text (Memory _) = ⊤
 -- the tree of tokens, if there are any
 abbrev pub tree_on : Option (List Token) → Option OrTree
 tree_on None = None
-tree_on (Some tokens) = tree_of 64 tokens
+tree_on (Some tokens) = tree_of_tokens 64 tokens
 
 -- the same as a function: the tree of a text in which dollars cover the references
 abbrev pub tree_in : List ℕ → Option OrTree

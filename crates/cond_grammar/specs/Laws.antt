@@ -4,7 +4,7 @@ use Rattle.mk_ref.specs.Units.{left_of}
 use Rattle.mk_ref.specs.Outside.{outside}
 use Rattle.cond_grammar.specs.declared.tokens.Token.{Token}
 use Rattle.cond_grammar.specs.Trees.{OrTree, IsTreeOf}
-use Rattle.cond_grammar.specs.Reading.{tree_of}
+use Rattle.cond_grammar.specs.Reader.{tree_of_tokens}
 use Rattle.cond_grammar.specs.Conditions.{IsConditionOf, tree_in}
 
 -- tokens have at most one tree
@@ -15,7 +15,7 @@ TokensHaveOneTree =
 
 -- the reading of tokens gives their tree, and none if they have none
 abbrev pub TreesAreRead : Type 0
-TreesAreRead = (limit : ℕ) (tokens : List Token) (tree : OrTree) → IsTreeOf limit tokens tree ↔ (tree_of limit tokens ≡ Some tree)
+TreesAreRead = (limit : ℕ) (tokens : List Token) (tree : OrTree) → IsTreeOf limit tokens tree ↔ (tree_of_tokens limit tokens ≡ Some tree)
 
 -- if its references end, a text has the tree that is read of it, and no other
 abbrev pub ConditionsAreRead : Type 0

@@ -1,7 +1,7 @@
 pub mod Tokens
-pub mod Scanning
+pub mod Scanner
 pub mod Trees
-pub mod Reading
+pub mod Reader
 pub mod Views
 pub mod Laws
 pub mod Conditions

@@ -4,7 +4,9 @@ use Rattle.std.specs.Prelude.{ℕ, zero, suc, ◌+◌, ◌-◌, ◌==◌, ◌||�
 use Rattle.std.specs.Prelude.{Option, Some, None, option_map, not, if◌then◌else◌}
 use Rattle.std.specs.Option.{option_or}
 use Rattle.std.specs.Str.{bytes_eq}
-use Rattle.mk_text.specs.declared.splitting.Span.{Span}
+use Rattle.general_facts.specs.Ascii.{bang, double_quote, ampersand, left_paren, right_paren, less_sign, equals_sign}
+use Rattle.general_facts.specs.Ascii.{greater_sign, bar}
+use Rattle.mk_text.specs.declared.span.Span.{Span}
 use Rattle.mk_text.specs.Blanks.{is_blank}
 use Rattle.cond_grammar.specs.declared.tokens.Comparison.TheVariants as o
 use Rattle.cond_grammar.specs.declared.tokens.Call.{Call}
@@ -33,22 +35,28 @@ blank_piece b = record { before = b ∷ []; inside = []; after = []; tokens = λ
 abbrev pub sign_piece : List ℕ → Token → Piece
 sign_piece bytes token = record { before = bytes; inside = []; after = []; tokens = λ place. token ∷ [] }
 
--- a text between double quotes (34), as a side
+-- a text between double quotes, as a side
 abbrev pub quoted_piece : List ℕ → Piece
-quoted_piece text = record { before = 34 ∷ []; inside = text; after = 34 ∷ []; tokens = λ place. t.Side (Quoted place) ∷ [] }
+quoted_piece text =
+    record { before = double_quote ∷ []; inside = text; after = double_quote ∷ []; tokens = λ place. t.Side (Quoted place) ∷ [] }
 
 -- a word, as a side
 abbrev pub word_piece : List ℕ → Piece
 word_piece word = record { before = []; inside = word; after = []; tokens = λ place. t.Side (Bare place) ∷ [] }
 
--- a call: its word, any blanks, and its argument between parentheses (40, 41)
+-- a call: its word, any blanks, and its argument between parentheses
 abbrev pub call_piece : Call → List ℕ → List ℕ → List ℕ → Piece
 call_piece call word blanks argument =
-    record { before = word ++ blanks ++ 40 ∷ []; inside = argument; after = 41 ∷ []; tokens = λ place. t.Call call place ∷ [] }
+    record {
+      before = word ++ blanks ++ left_paren ∷ [];
+      inside = argument;
+      after = right_paren ∷ [];
+      tokens = λ place. t.Call call place ∷ [];
+    }
 
 -- the signs by their bytes; if one begins another, the longer comes first
-abbrev pub signs : List (List ℕ × Token)
-signs =
+abbrev pub signs_by_bytes : List (List ℕ × Token)
+signs_by_bytes =
     (codes "||", t.Or) ∷ (codes "&&", t.And) ∷ (codes "==", t.Compare o.Equal) ∷ (codes "!=", t.Compare o.Unequal)
     ∷ (codes "<=", t.Compare o.AtMost) ∷ (codes ">=", t.Compare o.AtLeast) ∷ (codes "<", t.Compare o.Less)
     ∷ (codes ">", t.Compare o.Greater) ∷ (codes "!", t.Not) ∷ (codes "(", t.Left) ∷ (codes ")", t.Right) ∷ []
@@ -66,7 +74,9 @@ first_sign (sign ∷ more) text = if begins_with sign.0 text then Some (sign_pie
 
 -- a byte that ends a word: a blank, or one of `( ) ! = < > & | "`
 abbrev pub is_stop : ℕ → Bool
-is_stop b = is_blank b || b == 40 || b == 41 || b == 33 || b == 61 || b == 60 || b == 62 || b == 38 || b == 124 || b == 34
+is_stop b =
+    is_blank b || b == left_paren || b == right_paren || b == bang || b == equals_sign || b == less_sign || b == greater_sign
+    || b == ampersand || b == bar || b == double_quote
 
 -- a text cut before its first byte with a property; if there is none, nothing comes after the cut
 abbrev pub cut_before : (ℕ → Bool) → List ℕ → List ℕ × List ℕ
@@ -92,8 +102,8 @@ call_of word =
 abbrev pub before_closing : ℕ → List ℕ → Option (List ℕ)
 before_closing depth [] = None
 before_closing depth (b ∷ rest) =
-    if b == 40 then option_map (λ text. b ∷ text) (before_closing (suc depth) rest)
-    else if b == 41 then (if depth == 0 then Some [] else option_map (λ text. b ∷ text) (before_closing (depth - 1) rest))
+    if b == left_paren then option_map (λ text. b ∷ text) (before_closing (suc depth) rest)
+    else if b == right_paren then (if depth == 0 then Some [] else option_map (λ text. b ∷ text) (before_closing (depth - 1) rest))
     else option_map (λ text. b ∷ text) (before_closing depth rest)
 
 -- A call's word, if blanks and then this text follow it. With a parenthesis next it is a call, whose argument
@@ -101,7 +111,7 @@ before_closing depth (b ∷ rest) =
 abbrev pub call_or_word : Call → List ℕ → List ℕ → List ℕ → Option Piece
 call_or_word call word blanks [] = Some (word_piece word)
 call_or_word call word blanks (b ∷ rest) =
-    if b == 40 then option_map (call_piece call word blanks) (before_closing 0 rest) else Some (word_piece word)
+    if b == left_paren then option_map (call_piece call word blanks) (before_closing 0 rest) else Some (word_piece word)
 
 -- a word that this text follows, or a call, if it is the word of one
 abbrev pub word_or_call : List ℕ → List ℕ → Option Call → Option Piece
@@ -119,8 +129,8 @@ unfoldable pub first_piece : List ℕ → Option Piece
 first_piece [] = None
 first_piece (b ∷ rest) =
     if is_blank b then Some (blank_piece b)
-    else if b == 34 then (let cut = cut_before (λ c. c == 34) rest in quoted_up_to cut.0 cut.1)
-    else option_or (first_sign signs (b ∷ rest)) (let cut = cut_before is_stop (b ∷ rest) in some_word cut.0 cut.1)
+    else if b == double_quote then (let cut = cut_before (λ c. c == double_quote) rest in quoted_up_to cut.0 cut.1)
+    else option_or (first_sign signs_by_bytes (b ∷ rest)) (let cut = cut_before is_stop (b ∷ rest) in some_word cut.0 cut.1)
 
 -- a piece before those that `more` gives after it
 abbrev pub piece_before : (Piece → Option (List Piece)) → Option Piece → Option (List Piece)
@@ -135,8 +145,8 @@ pieces_by (suc bound) (b ∷ rest) =
     piece_before (λ piece. pieces_by bound (drop (length (spelling piece)) (b ∷ rest))) (first_piece (b ∷ rest))
 
 -- the same with no bound: a text has no more pieces than bytes
-abbrev pub pieces_of : List ℕ → Option (List Piece)
-pieces_of text = pieces_by (suc (length text)) text
+abbrev pub condition_pieces : List ℕ → Option (List Piece)
+condition_pieces text = pieces_by (suc (length text)) text
 
 -- the place of what is inside a piece, if this many bytes come before the piece
 abbrev pub place_inside : ℕ → Piece → Span
@@ -149,4 +159,4 @@ tokens_at at (piece ∷ pieces) = piece.tokens (place_inside at piece) ++ tokens
 
 -- the tokens of a text in which dollars cover the references
 abbrev pub tokens_of : List ℕ → Option (List Token)
-tokens_of text = option_map (tokens_at 0) (pieces_of text)
+tokens_of text = option_map (tokens_at 0) (condition_pieces text)

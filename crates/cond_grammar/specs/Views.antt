@@ -2,7 +2,7 @@
 use Rattle.std.specs.Prelude.{◌≡◌, List, Option, option_map, map, Box}
 use Rattle.std.specs.declared.alloc.Global.{Global}
 use Rattle.std.proofs.Common.{ap, sym, ◌∙◌}
-use Rattle.mk_text.specs.declared.splitting.Span.{Span}
+use Rattle.mk_text.specs.declared.span.Span.{Span}
 use Rattle.std.specs.Borrow.{Bor}
 use Rattle.cond_grammar.specs.declared.nodes.Condition.{Condition, Condition-F, fold-Condition, out-Condition, fold_out-Condition}
 use Rattle.cond_grammar.specs.declared.nodes.Conjunction.{Conjunction, Conjunction-F, fold-Conjunction}
@@ -14,7 +14,7 @@ use Rattle.cond_grammar.specs.declared.tokens.Call.{Call}
 use Rattle.cond_grammar.specs.declared.tokens.Side.{Side}
 use Rattle.cond_grammar.specs.declared.tokens.Token.{Token}
 use Rattle.cond_grammar.specs.Trees.{OrTree, OrOf, AndTree, AndOf, NotTree, Negated, Grouped, Called, Compared, Alone}
-use Rattle.cond_grammar.specs.Reading.{later_nots, later_ands}
+use Rattle.cond_grammar.specs.Reader.{later_nots, later_ands}
 
 -- one level, with what is inside already seen as its tree
 abbrev pub condition_step : Condition-F NotTree OrTree AndTree → OrTree

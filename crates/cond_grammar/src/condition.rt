@@ -9,8 +9,8 @@ ghost use Rattle.cond_grammar.specs.Views.{condition_tree};
 ghost use Rattle.cond_grammar.specs.Conditions.{IsConditionOf, IsFaultOf, tree_in};
 
 use crate::nodes::Condition;
-use crate::reading::read;
-use crate::scanning::tokens;
+use crate::reader::read;
+use crate::scanner::tokens;
 use mk_ref::{PiecesFault, outside, outside_keeps_places, pieces};
 use refusals::OutOfMemory;
 use std::alloc::{AllocError, Global};

@@ -4,8 +4,8 @@
 mod condition;
 mod laws;
 mod nodes;
-mod reading;
-mod scanning;
+mod reader;
+mod scanner;
 mod tokens;
 
 pub use condition::{ConditionError, LEVELS, read_condition};

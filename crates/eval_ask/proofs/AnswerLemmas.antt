@@ -1,35 +1,35 @@
 -- What an evaluation that is asked for has come to.
 use Rattle.std.proofs.Common.{◌≡◌, ◌≤◌, ◌⊎◌, ◌+◌, ◌-◌, ◌++◌, ◌∙◌, ap, arith, inl, inr, refl, subst, sym, ℕ, zero, suc, Option, None, Some, Result, Ok, Err}
-use Rattle.mk_base.specs.declared.metering.TheConstants.{UNITS}
+use Rattle.mk_base.specs.declared.budget.TheConstants.{UNITS}
 use Rattle.turn_amounts.specs.declared.TheConstants.{MOST_CHECKS}
 use Rattle.mk_paths.specs.World.{FileMap, World}
-use Rattle.mk_eval.specs.Sharing.{cost_of}
+use Rattle.mk_eval.specs.Agreement.{cost_of}
 use Rattle.mk_base.specs.FaultAt.{FaultAt}
 use Rattle.mk_base.specs.Meter.{full}
 use Rattle.mk_base.specs.Outcome.{left}
-use Rattle.mk_files.specs.Asking.{Account}
-use Rattle.mk_eval.specs.Meaning.{evaluated, evaluation, fresh}
+use Rattle.mk_files.specs.Questions.{Account}
+use Rattle.mk_eval.specs.Meaning.{evaluated, evaluation, unspent_account}
 use Rattle.mk_eval.specs.declared.state.EvalState.{EvalState}
 use Rattle.mk_eval.proofs.SharedEvaluation.{shared-evaluation}
-use Rattle.mk_step.specs.Machine.{Left, advance}
+use Rattle.mk_step.specs.Machine.{StateAndFrames, advance}
 use Rattle.mk_step.specs.Points.{Point, point_before}
-use Rattle.mk_step.specs.Turning.{IsLast, StopsInTime}
+use Rattle.mk_step.specs.Turn.{IsLastDone, StopsInTime}
 use Rattle.mk_step.specs.Views.{point_of}
 use Rattle.mk_step.proofs.Coming.{come-on, spends}
 use Rattle.mk_step.proofs.SharedSteps.{shared-advance}
 use Rattle.eval_cache.specs.Keys.{Key}
 use Rattle.eval_cache.specs.Right.{evaluation_of}
 use Rattle.ports_index.specs.Pairs.{Pair}
-use Rattle.ports_index.specs.Spending.{SpendsOnOne}
-use Rattle.read_trace.specs.declared.evaluating.Evaluation.{Evaluation}
-use Rattle.ports_index.specs.declared.spending.Spent.{Spent}
-use Rattle.eval_ask.specs.Asking.{key_in, pair_for, spent_in, spent_on, spent_so_far, CanGoOn, HasComeTo, IsAnswerTo, IsAskIn}
-use Rattle.eval_ask.specs.Asking.{EvaluatesInTime, IsLastThing, IsShort, TurnsAsk, TellsWhole}
-use Rattle.eval_ask.specs.declared.asking.Ask.{Ask}
-use Rattle.eval_ask.specs.declared.asking.Looked.{Looked}
-use Rattle.eval_ask.specs.declared.asking.Asked.{Asked}
-use Rattle.eval_ask.specs.declared.asking.AskTurned.{AskTurned}
-use Rattle.eval_ask.specs.declared.asking.AskTurned.TheVariants as ask
+use Rattle.ports_index.specs.Spent.{SpendsOnOne}
+use Rattle.read_trace.specs.declared.evaluation.Evaluation.{Evaluation}
+use Rattle.ports_index.specs.declared.spent.Spent.{Spent}
+use Rattle.eval_ask.specs.Ask.{key_in, pair_for, spent_in, spent_less_saved, spent_so_far, IsAskUnderWay, HasComeTo, IsAnswerTo, IsAskIn}
+use Rattle.eval_ask.specs.Ask.{EvaluatesInTime, IsLastThing, IsShort, TurnsAsk, TellsWhole}
+use Rattle.eval_ask.specs.declared.ask.Ask.{Ask}
+use Rattle.eval_ask.specs.declared.ask.Looked.{Looked}
+use Rattle.eval_ask.specs.declared.ask.Asked.{Asked}
+use Rattle.eval_ask.specs.declared.ask.AskTurned.{AskTurned}
+use Rattle.eval_ask.specs.declared.ask.AskTurned.TheVariants as ask
 
 -- what was spent is no more than the evaluation costs
 pub within-answer : (files : FileMap) (key : Key) (asked : Asked) → IsAnswerTo files key asked → asked.units ≤ cost_of (evaluation_of files key).outcome
@@ -46,11 +46,11 @@ cost_left (Err end) = refl
 -- an evaluation costs few units
 pub cost-within : (files : FileMap) (key : Key) → cost_of (evaluation_of files key).outcome ≤ UNITS
 cost-within files key =
-    let end : Result (EvalState × Account) (FaultAt × Account) = evaluation (files, key.settings) key.name key.flavors (fresh UNITS None) in
+    let end : Result (EvalState × Account) (FaultAt × Account) = evaluation (files, key.settings) key.name key.flavors (unspent_account UNITS None) in
     let shared = shared-evaluation files files key.settings key.name key.flavors in
     omega (arith, cost_left end, spends shared (full UNITS) None end refl, shared.steady.within (full UNITS) (omega arith))
 
-pub can-go-on : (files : FileMap) (key : Key) (turned : AskTurned) → HasComeTo files key turned → CanGoOn files turned
+pub can-go-on : (files : FileMap) (key : Key) (turned : AskTurned) → HasComeTo files key turned → IsAskUnderWay files turned
 can-go-on files key (ask.More new) come = come.1
 can-go-on files key (ask.Done asked) come = tt
 
@@ -61,10 +61,10 @@ few-come files key (ask.Done asked) come = (omega (arith, within-answer files ke
 
 -- the last thing that was done in a turn is one of the evaluation
 module _ (files : FileMap) (units spent : ℕ) (old : Ask) (is : IsAskIn files old) (all : spent ≤ UNITS) where
-  last-thing : IsLast files units (point_of old.machine) spent → IsLastThing (files, (key_in old).settings) (pair_for (key_in old)) units old.machine.budget.spent spent
+  last-thing : IsLastDone files units (point_of old.machine) spent → IsLastThing (files, (key_in old).settings) (pair_for (key_in old)) units old.machine.budget.spent spent
   last-thing last =
       let next : Point = point_before last.makefile last.frame last.others last.state last.account in
-      let end : Result (Left × Account) (FaultAt × Account) = advance files last.makefile last.frame last.others last.state last.account in
+      let end : Result (StateAndFrames × Account) (FaultAt × Account) = advance files last.makefile last.frame last.others last.state last.account in
       let shared = shared-advance files last.makefile last.frame last.others last.state in
       let onward : last.account.meter.spent ≤ spent = omega (arith, shared.steady.onward last.account.meter, spends shared last.account.meter last.account.log end refl, last.leaves) in
       record {
@@ -150,7 +150,7 @@ spent_by cost evaluation zero (suc checks) whole unchecked = inr (omega arith, o
 spent_by cost evaluation (suc units) (suc checks) whole unchecked = inl (omega (arith, whole (omega arith)))
 
 pub SpendsOnOne-answer : (files : FileMap) (key : Key) (asked : Asked) (cost : ℕ) → IsAnswerTo files key asked
-    → SpendsOnOne cost (cost_of (evaluation_of files key).outcome) 1 (spent_on asked cost)
+    → SpendsOnOne cost (cost_of (evaluation_of files key).outcome) 1 (spent_less_saved asked cost)
 SpendsOnOne-answer files key asked cost is = record {
   few = omega (arith, is.few);
   paid = subst (λ (n : ℕ). (cost - (n - asked.units) ≡ cost) ⊎ ((1 ≤ asked.checks) × (cost - (n - asked.units) ≡ cost - cost_of (evaluation_of files key).outcome)))

@@ -4,31 +4,31 @@ use Rattle.turn_amounts.specs.declared.TheConstants.{MOST_CHECKS}
 use Rattle.mk_paths.specs.World.{FileMap}
 use Rattle.eval_cache.specs.Cache.{CacheValue, holds_parse, count_parse, count_look, traces_at, one_more}
 use Rattle.eval_cache.specs.Keys.{Key}
-use Rattle.eval_cache.specs.Looking.{agreeing}
-use Rattle.eval_cache.specs.Parsing.{AsksParse, AsksInTurn, AsksParses}
-use Rattle.eval_cache.specs.declared.counting.Counts.{Counts}
-use Rattle.eval_cache.specs.declared.looking.Look.{Look}
-use Rattle.eval_cache.specs.declared.looking.Look.TheVariants.{Miss}
+use Rattle.eval_cache.specs.Look.{agreeing}
+use Rattle.eval_cache.specs.Parses.{AsksParse, AsksInTurn, AsksParses}
+use Rattle.eval_cache.specs.declared.counts.Counts.{Counts}
+use Rattle.eval_cache.specs.declared.look.Look.{Look}
+use Rattle.eval_cache.specs.declared.look.Look.TheVariants.{Miss}
 use Rattle.eval_cache.specs.Right.{evaluation_of, IsRight-recorded}
 use Rattle.mk_paths.specs.FilesView.{FilesView, Question, noted}
-use Rattle.mk_paths.specs.declared.asking.FilesFault.{FilesFault}
-use Rattle.mk_paths.specs.declared.asking.FilesFault.TheVariants as faults
+use Rattle.mk_paths.specs.declared.files.FilesFault.{FilesFault}
+use Rattle.mk_paths.specs.declared.files.FilesFault.TheVariants as faults
 use Rattle.mk_eval.specs.Meaning.{means}
-use Rattle.mk_eval.specs.Sharing.{Agrees, cost_of, questions_of}
+use Rattle.mk_eval.specs.Agreement.{Agrees, cost_of, questions_of}
 use Rattle.mk_eval.specs.declared.outcome.Evaluated.{Evaluated}
 use Rattle.mk_eval.specs.declared.outcome.Failed.{Failed}
-use Rattle.mk_step.specs.Turning.{AsksMore, IsUnderWay, TellsIfDone, Leaves, LeavesAtFailure, Spends, StopsInTime}
+use Rattle.mk_step.specs.Turn.{AsksMore, IsUnderWay, TellsIfDone, Leaves, LeavesAtFailure, Spends, StopsInTime}
 use Rattle.mk_step.specs.Views.{point_of}
 use Rattle.mk_step.specs.declared.machine.Machine.{Machine}
 use Rattle.mk_step.specs.declared.machine.Turned.{Turned}
 use Rattle.mk_step.specs.declared.machine.Turned.TheVariants.{More, Done}
 use Rattle.read_trace.specs.Recorded.{IsTheSameWhereAgreed}
-use Rattle.read_trace.specs.Recording.{with_trace, LeavesMap, MayFail}
-use Rattle.read_trace.specs.declared.evaluating.Evaluation.{Evaluation}
-use Rattle.eval_ask.specs.Asking.{evals_after, key_in, TurnsAsk, EndsRight, ComesTo}
-use Rattle.eval_ask.specs.declared.asking.Ask.{Ask}
-use Rattle.eval_ask.specs.declared.asking.AskTurned.{AskTurned}
-use Rattle.eval_ask.specs.declared.asking.AskTurned.TheVariants as ask
+use Rattle.read_trace.specs.Recorder.{with_trace, LeavesMap, MayFail}
+use Rattle.read_trace.specs.declared.evaluation.Evaluation.{Evaluation}
+use Rattle.eval_ask.specs.Ask.{evals_after, key_in, TurnsAsk, EndsRight, ComesTo}
+use Rattle.eval_ask.specs.declared.ask.Ask.{Ask}
+use Rattle.eval_ask.specs.declared.ask.AskTurned.{AskTurned}
+use Rattle.eval_ask.specs.declared.ask.AskTurned.TheVariants as ask
 
 some_same : {A : Type 0} {x y : A} → ◌≡◌ {A = Option A} (Some x) (Some y) → x ≡ y
 some_same e = cc

@@ -3,20 +3,20 @@ use Rattle.std.proofs.Common.{◌≡◌, ◌⊎◌, inl, inr, ap, refl, ℕ, Boo
 use Rattle.std.specs.Coded.{Coded, code_by, coded×, coded⊎, coded_list, coded_ℕ, coded_bool, coded_option, coded_result}
 use Rattle.std.specs.FinMap.{code}
 use Rattle.mk_base.specs.FaultAt.{FaultAt}
-use Rattle.mk_base.specs.Faults.{number_of}
+use Rattle.mk_base.specs.Faults.{fault_number}
 use Rattle.mk_base.specs.Meter.{Meter}
 use Rattle.mk_base.specs.declared.faults.FaultKind.{FaultKind}
 use Rattle.mk_base.specs.declared.faults.FaultKind.TheVariants as kinds
 use Rattle.mk_text.specs.Profiles.{profile_code}
 use Rattle.mk_env.specs.Texts.{Variables}
 use Rattle.mk_paths.specs.FilesView.{Question, Reply, Presence, Contents}
-use Rattle.mk_files.specs.Asking.{Account}
+use Rattle.mk_files.specs.Questions.{Account}
 use Rattle.mk_eval.specs.declared.outcome.Evaluated.{Evaluated}
 use Rattle.mk_eval.specs.declared.outcome.Failed.{Failed}
 use Rattle.mk_eval.specs.declared.outcome.Kind.{Kind}
 use Rattle.mk_eval.specs.declared.outcome.Kind.TheVariants as outcome
 use Rattle.mk_eval.specs.declared.state.EvalState.{EvalState}
-use Rattle.read_trace.specs.declared.evaluating.Evaluation.{Evaluation}
+use Rattle.read_trace.specs.declared.evaluation.Evaluation.{Evaluation}
 
 -- the kind of fault of each number, of which the first is 1
 abbrev fault_kinds : List FaultKind
@@ -29,7 +29,7 @@ fault_kinds =
 abbrev fault_of : ℕ → FaultKind
 fault_of n = unwrap_or (slice_get fault_kinds n) kinds.Line
 
-fault_of-number : (kind : FaultKind) → fault_of (number_of kind) ≡ kind
+fault_of-number : (kind : FaultKind) → fault_of (fault_number kind) ≡ kind
 fault_of-number kinds.Line = refl
 fault_of-number kinds.Block = refl
 fault_of-number kinds.Condition = refl
@@ -52,7 +52,7 @@ fault_of-number kinds.Questions = refl
 fault_code : Coded FaultAt
 fault_code =
     code_by (ℕ × (List ℕ × ℕ)) (coded× coded_ℕ (coded× (coded_list coded_ℕ) coded_ℕ))
-    (λ fault. (number_of fault.kind, (fault.name, fault.line))) (λ parts. record { kind = fault_of parts.0; name = parts.1.0; line = parts.1.1 })
+    (λ fault. (fault_number fault.kind, (fault.name, fault.line))) (λ parts. record { kind = fault_of parts.0; name = parts.1.0; line = parts.1.1 })
     (λ fault. ap (λ kind. let same : FaultAt = record { kind = kind; name = fault.name; line = fault.line } in same) (fault_of-number fault.kind))
 
 abbrev kind_number : Kind → ℕ

@@ -4,13 +4,13 @@ use Rattle.std.proofs.Props.{props}
 use Rattle.std.specs.Coded.{×_prop, Unit-prop}
 use Rattle.mk_paths.specs.World.{FileMap}
 use Rattle.mk_paths.specs.FilesView.{Question, Reply, Presence, Contents, IsReply}
-use Rattle.mk_eval.specs.Sharing.{Agrees}
+use Rattle.mk_eval.specs.Agreement.{Agrees}
 use Rattle.eval_cache.specs.Keys.{Key}
-use Rattle.eval_ask.specs.declared.asking.Ask.{Ask}
-use Rattle.eval_ask.specs.declared.asking.Asked.{Asked}
-use Rattle.eval_ask.specs.declared.asking.AskTurned.{AskTurned}
-use Rattle.eval_ask.specs.declared.asking.AskTurned.TheVariants.{More, Done}
-use Rattle.eval_ask.specs.Asking.{HasComeTo, IsAnswerTo, IsAskIn}
+use Rattle.eval_ask.specs.declared.ask.Ask.{Ask}
+use Rattle.eval_ask.specs.declared.ask.Asked.{Asked}
+use Rattle.eval_ask.specs.declared.ask.AskTurned.{AskTurned}
+use Rattle.eval_ask.specs.declared.ask.AskTurned.TheVariants.{More, Done}
+use Rattle.eval_ask.specs.Ask.{HasComeTo, IsAnswerTo, IsAskIn}
 use Rattle.eval_ask.proofs.Codes.{end_code, evaluation_code}
 
 IsReply-prop : (files : FileMap) (name : List ℕ) (reply : Reply) → IsProp (IsReply files name reply)

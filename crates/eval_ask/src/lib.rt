@@ -2,10 +2,10 @@
 //! later.
 #![tactic(auto)]
 
-mod asking;
+mod ask;
 mod laws;
-mod spending;
+mod spent;
 
-pub use asking::{Ask, AskTurned, Asked};
+pub use ask::{Ask, AskTurned, Asked};
 pub use laws::asking_spends;
-pub use spending::{left_of, spent_since};
+pub use spent::{left_of, spent_since};

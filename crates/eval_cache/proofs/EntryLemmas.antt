@@ -11,18 +11,18 @@ use Rattle.std.specs.declared.vec.Vec.{Vec}
 use Rattle.std.proofs.lemmas.Slice.Eq.{bytes_eq-Decides}
 use Rattle.lru.specs.LruCache.{LruCache, promoted}
 use Rattle.eval_cache.specs.declared.purpose.Purpose.{Purpose}
-use Rattle.eval_cache.specs.Keeping.{PutsNew}
+use Rattle.eval_cache.specs.CacheOrder.{PutsNew}
 use Rattle.eval_cache.proofs.PlaceLemmas.{Contains-PutsNew}
 use Rattle.lru.proofs.CallerLemmas.{Contains-lookup, Contains-lookup_entry, Contains-remove_entry, Contains-promoted}
-use Rattle.mk_ast.specs.Parsing.{parsed}
+use Rattle.mk_ast.specs.Parser.{parsed}
 use Rattle.mk_ast.specs.declared.nodes.Makefile.{Makefile}
-use Rattle.mk_ast.specs.declared.parsing.ParseFault.{ParseFault}
-use Rattle.mk_eval.specs.Trees.{tree_in}
-use Rattle.read_trace.specs.declared.evaluating.Evaluation.{Evaluation}
+use Rattle.mk_ast.specs.declared.parser.ParseFault.{ParseFault}
+use Rattle.mk_eval.specs.Trees.{tree_or_fault}
+use Rattle.read_trace.specs.declared.evaluation.Evaluation.{Evaluation}
 use Rattle.eval_cache.specs.declared.contents.ContentKey.{ContentKey}
 use Rattle.eval_cache.specs.declared.key.EvalKey.{EvalKey}
 use Rattle.eval_cache.specs.Keys.{Key, key_of, same_key}
-use Rattle.eval_cache.specs.Held.{KeptParses, KeptEvaluations, contents_of, traces_of, traces_by_key, AreRight, AreShort, AreTrees, AreKept, items_of}
+use Rattle.eval_cache.specs.Held.{KeptParses, KeptEvaluations, contents_of, traces_of, traces_by_key, AreRight, AreShort, AreTrees, AreRightForKeys, evaluations_in}
 use Rattle.eval_cache.proofs.KeyLemmas.{key_eq, key_eq-same_key, key_eq-≡, same_key-≡, ≡-key_eq}
 
 seen_step : {X Y : Type 0} (value : X → Y) (x : X) (b : Bool) (seen : Option Y) (found : Option X) → seen ≡ option_map value found
@@ -49,28 +49,28 @@ traces-kept_at evals key = lookup-seen key_of (λ kept. traces_of kept.items) (k
 
 -- and are right
 pub kept_at-AreRight : (evals : KeptEvaluations) (key : EvalKey) (kept : Vec (Rc Evaluation Global) Global)
-    → AreKept evals → kept_at evals key ≡ Some kept → AreRight (key_of key) kept.items × AreShort kept.items
+    → AreRightForKeys evals → kept_at evals key ≡ Some kept → AreRight (key_of key) kept.items × AreShort kept.items
 kept_at-AreRight evals key kept right found =
     let entry = Contains-lookup (key_eq key) evals kept found in
     let here = right entry.0 kept entry.1 in
     (subst (λ k. AreRight k kept.items) (sym (key_eq-≡ key entry.0 entry.2)) here.0, here.1)
 
-pub AreKept-promoted : (evals : KeptEvaluations) (key : EvalKey) → AreKept evals → AreKept (promoted (key_eq key) evals)
-AreKept-promoted evals key right other kept there = right other kept (Contains-promoted (key_eq key) evals (other, kept) there)
+pub AreRightForKeys-promoted : (evals : KeptEvaluations) (key : EvalKey) → AreRightForKeys evals → AreRightForKeys (promoted (key_eq key) evals)
+AreRightForKeys-promoted evals key right other kept there = right other kept (Contains-promoted (key_eq key) evals (other, kept) there)
 
-pub AreKept-removed : (evals : KeptEvaluations) (key : EvalKey) → AreKept evals → AreKept (remove_entry (key_eq key) evals)
-AreKept-removed evals key right other kept there = right other kept (Contains-remove_entry (key_eq key) evals (other, kept) there)
+pub AreRightForKeys-removed : (evals : KeptEvaluations) (key : EvalKey) → AreRightForKeys evals → AreRightForKeys (remove_entry (key_eq key) evals)
+AreRightForKeys-removed evals key right other kept there = right other kept (Contains-remove_entry (key_eq key) evals (other, kept) there)
 
 -- the evaluations that are kept under a key, if any are, are right
 pub items-AreRight : (evals : KeptEvaluations) (key : EvalKey) (older : Option (Vec (Rc Evaluation Global) Global))
-    → AreKept evals → older ≡ kept_at evals key → AreRight (key_of key) (items_of older) × AreShort (items_of older)
+    → AreRightForKeys evals → older ≡ kept_at evals key → AreRight (key_of key) (evaluations_in older) × AreShort (evaluations_in older)
 items-AreRight evals key None right found = (tt, (tt, omega arith))
 items-AreRight evals key (Some kept) right found = kept_at-AreRight evals key kept right (sym found)
 
 -- evaluations are put under a key that has none, if there is memory for that
-pub AreKept-put : (purpose : Purpose) (old new : LruCache EvalKey (Vec (Rc Evaluation Global) Global)) (key : EvalKey) (kept : Vec (Rc Evaluation Global) Global)
-    → AreKept old.entries → AreRight (key_of key) kept.items → AreShort kept.items → PutsNew purpose (key, kept) old new → AreKept new.entries
-AreKept-put purpose old new key kept right here short puts other value there = elim (Contains-PutsNew purpose (key, kept) old new (other, value) puts there) [
+pub AreRightForKeys-put : (purpose : Purpose) (old new : LruCache EvalKey (Vec (Rc Evaluation Global) Global)) (key : EvalKey) (kept : Vec (Rc Evaluation Global) Global)
+    → AreRightForKeys old.entries → AreRight (key_of key) kept.items → AreShort kept.items → PutsNew purpose (key, kept) old new → AreRightForKeys new.entries
+AreRightForKeys-put purpose old new key kept right here short puts other value there = elim (Contains-PutsNew purpose (key, kept) old new (other, value) puts there) [
   | inl was ↦ right other value was
   | inr is ↦ (
     subst (λ (e : EvalKey × Vec (Rc Evaluation Global) Global). AreRight (key_of e.0) e.1.items) is here,
@@ -80,11 +80,11 @@ AreKept-put purpose old new key kept right here short puts other value there = e
 
 -- the traces that a cache shows are those of the evaluations under a key
 pub traces-of-kept : (evals : KeptEvaluations) (key : EvalKey) (kept : Option (Vec (Rc Evaluation Global) Global)) → kept ≡ kept_at evals key
-    → traces_of (items_of kept) ≡ unwrap_or (lookup (same_key (key_of key)) (traces_by_key evals)) []
+    → traces_of (evaluations_in kept) ≡ unwrap_or (lookup (same_key (key_of key)) (traces_by_key evals)) []
 traces-of-kept evals key kept found =
     by kept ∙ ap (λ k. unwrap_or (option_map (λ (kept : Vec (Rc Evaluation Global) Global). traces_of kept.items) k) []) found ∙ ap (λ traces. unwrap_or traces []) (sym (traces-kept_at evals key))
   where
-    by : (kept : Option (Vec (Rc Evaluation Global) Global)) → traces_of (items_of kept) ≡ unwrap_or (option_map (λ (kept : Vec (Rc Evaluation Global) Global). traces_of kept.items) kept) []
+    by : (kept : Option (Vec (Rc Evaluation Global) Global)) → traces_of (evaluations_in kept) ≡ unwrap_or (option_map (λ (kept : Vec (Rc Evaluation Global) Global). traces_of kept.items) kept) []
     by None = refl
     by (Some kept) = refl
 
@@ -152,7 +152,7 @@ is_some-parse parses key = is_some-lookup (content_eq key) parses ∙ any_conten
 
 -- it is the tree of that content
 pub lookup-AreTrees : (parses : KeptParses) (key : ContentKey) (parse : Result (Rc Makefile Global) ParseFault)
-    → AreTrees parses → lookup (content_eq key) parses ≡ Some parse → tree_in parse ≡ parsed key.content
+    → AreTrees parses → lookup (content_eq key) parses ≡ Some parse → tree_or_fault parse ≡ parsed key.content
 lookup-AreTrees parses key parse trees found =
     let entry = Contains-lookup (content_eq key) parses parse found in
     trees entry.0 parse entry.1 ∙ ap parsed (sym ((bytes_eq-Decides key.content entry.0.content).0 entry.2))
@@ -162,9 +162,9 @@ AreTrees-promoted parses key trees other parse there = trees other parse (Contai
 
 -- a parse is put under its content, for which none is kept, if there is memory for that
 pub AreTrees-put : (purpose : Purpose) (old new : LruCache ContentKey (Result (Rc Makefile Global) ParseFault)) (key : ContentKey)
-    (parse : Result (Rc Makefile Global) ParseFault) → AreTrees old.entries → tree_in parse ≡ parsed key.content → PutsNew purpose (key, parse) old new
+    (parse : Result (Rc Makefile Global) ParseFault) → AreTrees old.entries → tree_or_fault parse ≡ parsed key.content → PutsNew purpose (key, parse) old new
     → AreTrees new.entries
 AreTrees-put purpose old new key parse trees here puts other value there = elim (Contains-PutsNew purpose (key, parse) old new (other, value) puts there) [
   | inl was ↦ trees other value was
-  | inr is ↦ subst (λ (e : ContentKey × Result (Rc Makefile Global) ParseFault). tree_in e.1 ≡ parsed e.0.content) is here
+  | inr is ↦ subst (λ (e : ContentKey × Result (Rc Makefile Global) ParseFault). tree_or_fault e.1 ≡ parsed e.0.content) is here
 ]

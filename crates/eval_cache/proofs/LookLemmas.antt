@@ -7,14 +7,14 @@ use Rattle.std.specs.List.{AllByRecursion}
 use Rattle.std.specs.declared.rc.Rc.{Rc}
 use Rattle.mk_paths.specs.World.{FileMap}
 use Rattle.mk_paths.specs.FilesView.{Question, FilesView, noted, noted-twice}
-use Rattle.mk_files.specs.Looking.{AfterFailedQuestion, LeavesAtStop-on, stop_of}
-use Rattle.mk_paths.specs.declared.asking.FilesFault.{FilesFault}
-use Rattle.mk_paths.specs.declared.asking.FilesFault.TheVariants as faults
-use Rattle.read_trace.specs.Agreement.{agreement, asked_again, has_reply, one_more, AsksAgain, IsAnswered}
-use Rattle.read_trace.specs.declared.evaluating.Evaluation.{Evaluation}
+use Rattle.mk_files.specs.AfterQuestions.{AfterFailedQuestion, LeavesAtStop-on, stop_of}
+use Rattle.mk_paths.specs.declared.files.FilesFault.{FilesFault}
+use Rattle.mk_paths.specs.declared.files.FilesFault.TheVariants as faults
+use Rattle.read_trace.specs.Agreement.{agreement, asked_again, has_reply, one_more_checked, AsksAgain, IsAnswered}
+use Rattle.read_trace.specs.declared.evaluation.Evaluation.{Evaluation}
 use Rattle.eval_cache.specs.Keys.{Key}
 use Rattle.eval_cache.specs.Right.{IsRight}
-use Rattle.eval_cache.specs.Looking.{after, agreeing, checked_in, checked_among, FailsAmong, IsAgreed}
+use Rattle.eval_cache.specs.Look.{after_more_checks, agreeing, checked_in, checked_among, FailsAmong, IsAgreed}
 use Rattle.eval_cache.specs.Held.{AreRight, AreShort, HasFewAnswers, IsOneOf, traces_of}
 use Rattle.refusals.specs.Refused.{refused}
 
@@ -42,7 +42,7 @@ IsOneOf-at (first ∷ kept) (suc i) one evaluation within is same = inr (IsOneOf
 
 agreed_step : (files : FileMap) (question : Question) (questions : List Question) (same : Bool)
     → (agreement files questions).1 ≤ length questions
-    → (if same then one_more (agreement files questions) else (false, 1)).1 ≤ length (question ∷ questions)
+    → (if same then one_more_checked (agreement files questions) else (false, 1)).1 ≤ length (question ∷ questions)
 agreed_step files question questions true within = omega arith
 agreed_step files question questions false within = omega arith
 
@@ -51,15 +51,15 @@ pub agreement-≤ : (files : FileMap) (questions : List Question) → (agreement
 agreement-≤ files [] = omega arith
 agreement-≤ files (question ∷ questions) = agreed_step files question questions (has_reply files question) (agreement-≤ files questions)
 
-one_more-checked : (files : FileMap) (questions : List Question) (same : Bool)
-    → 1 ≤ (if same then one_more (agreement files questions) else (false, 1)).1
-one_more-checked files questions true = omega arith
-one_more-checked files questions false = omega arith
+one_more_checked-checked : (files : FileMap) (questions : List Question) (same : Bool)
+    → 1 ≤ (if same then one_more_checked (agreement files questions) else (false, 1)).1
+one_more_checked-checked files questions true = omega arith
+one_more_checked-checked files questions false = omega arith
 
 -- of a trace that has answers at least one is checked
 pub agreement-some : (files : FileMap) (questions : List Question) → 1 ≤ length questions → 1 ≤ (agreement files questions).1
 agreement-some files [] some = absurd (omega (arith, some))
-agreement-some files (question ∷ questions) some = one_more-checked files questions (has_reply files question)
+agreement-some files (question ∷ questions) some = one_more_checked-checked files questions (has_reply files question)
 
 -- so one trace adds few of them, and at least one
 pub few-more : (kept : List (Rc Evaluation Global)) (i : ℕ) (one : Rc Evaluation Global) (evaluation : Evaluation) (files : FileMap) (answer : Bool × ℕ)
@@ -74,13 +74,13 @@ few-more kept i one evaluation files answer short within is same found =
 -- What was checked before the rest of the traces: none agreed, so many answers were checked, and the view of the
 -- files is this.
 pub record Checked (old : FilesView) (traces rest : List (List Question)) (count : ℕ) (new : FilesView) : Type 0 where
-  pub agreeing_so_far : agreeing old.files traces ≡ after count (agreeing old.files rest)
+  pub agreeing_so_far : agreeing old.files traces ≡ after_more_checks count (agreeing old.files rest)
   pub before : List Question
   pub in_log : new ≡ noted old before
   pub asked : checked_among old.files traces ≡ before ++ checked_among old.files rest
 
-after-twice : (count more : ℕ) (checked : Bool × ℕ) → after count (after more checked) ≡ after (count + more) checked
-after-twice count more checked = ap (λ n. (checked.0, n)) (omega arith)
+after_more_checks-twice : (count more : ℕ) (checked : Bool × ℕ) → after_more_checks count (after_more_checks more checked) ≡ after_more_checks (count + more) checked
+after_more_checks-twice count more checked = ap (λ n. (checked.0, n)) (omega arith)
 
 files-checked : (old middle : FilesView) (before : List Question) → middle ≡ noted old before → middle.files ≡ old.files
 files-checked old middle before is = ap (λ view. view.files) is
@@ -115,9 +115,9 @@ Checked-more old traces trace rest count answer middle new so_far found asks dif
     let differs' : (agreement old.files trace).0 ≡ false = ap (λ (p : Bool × ℕ). p.0) same ∙ differs in
     record {
       agreeing_so_far = so_far.agreeing_so_far
-          ∙ ap (λ b. after count (if b then agreement old.files trace else after (agreement old.files trace).1 (agreeing old.files rest))) differs'
-          ∙ ap (λ (p : Bool × ℕ). after count (after p.1 (agreeing old.files rest))) same
-          ∙ after-twice count answer.1 (agreeing old.files rest);
+          ∙ ap (λ b. after_more_checks count (if b then agreement old.files trace else after_more_checks (agreement old.files trace).1 (agreeing old.files rest))) differs'
+          ∙ ap (λ (p : Bool × ℕ). after_more_checks count (after_more_checks p.1 (agreeing old.files rest))) same
+          ∙ after_more_checks-twice count answer.1 (agreeing old.files rest);
       before = so_far.before ++ checked_in old.files trace;
       in_log = log-more old middle new so_far.before trace answer.1 so_far.in_log (ap (λ (p : Bool × ℕ). p.1) same) asks;
       asked = so_far.asked

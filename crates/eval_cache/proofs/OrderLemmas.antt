@@ -12,17 +12,17 @@ use Rattle.std.specs.declared.vec.Vec.{Vec}
 use Rattle.lru.specs.LruCache.{LruCache, lru_cache, promoted}
 use Rattle.lru.proofs.CallerLemmas.{Contains-lookup_entry}
 use Rattle.mk_ast.specs.declared.nodes.Makefile.{Makefile}
-use Rattle.mk_ast.specs.declared.parsing.ParseFault.{ParseFault}
-use Rattle.read_trace.specs.declared.evaluating.Evaluation.{Evaluation}
+use Rattle.mk_ast.specs.declared.parser.ParseFault.{ParseFault}
+use Rattle.read_trace.specs.declared.evaluation.Evaluation.{Evaluation}
 use Rattle.mk_paths.specs.FilesView.{Question}
 use Rattle.eval_cache.specs.declared.contents.ContentKey.{ContentKey}
-use Rattle.eval_cache.specs.declared.counting.Counts.{Counts}
+use Rattle.eval_cache.specs.declared.counts.Counts.{Counts}
 use Rattle.eval_cache.specs.declared.key.EvalKey.{EvalKey}
 use Rattle.eval_cache.specs.Keys.{Key, key_of, same_key}
 use Rattle.eval_cache.specs.Cache.{CacheValue, traces_at, one_more, count_parse}
-use Rattle.eval_cache.specs.Held.{KeptParses, KeptEvaluations, contents_of, traces_of, traces_by_key, items_of, HasFewAnswers, AreNewest}
+use Rattle.eval_cache.specs.Held.{KeptParses, KeptEvaluations, contents_of, traces_of, traces_by_key, evaluations_in, HasFewAnswers, AreNewest}
 use Rattle.eval_cache.specs.declared.purpose.Purpose.{Purpose}
-use Rattle.eval_cache.specs.Keeping.{placed, PutsNew, without, Keeps, HandsOut}
+use Rattle.eval_cache.specs.CacheOrder.{placed, PutsNew, without_content, Keeps, HandsOut}
 use Rattle.eval_cache.proofs.KeyLemmas.{key_eq, key_eq-same_key, key_eq-≡, ≡-key_eq}
 use Rattle.eval_cache.proofs.PlaceLemmas.{placed-shown}
 use Rattle.eval_cache.proofs.EntryLemmas.{content_eq, kept_at, traces-of-kept, is_some-parse}
@@ -151,13 +151,13 @@ with_evals contents parses counts purpose evals = record {
 pub Keeps-put : (contents : List (List ℕ)) (parses : ℕ) (counts : Counts) (purpose : Purpose)
     (old middle new : LruCache EvalKey (Vec (Rc Evaluation Global) Global)) (key : EvalKey) (evaluation : Evaluation)
     (older : Option (Vec (Rc Evaluation Global) Global)) (kept : Vec (Rc Evaluation Global) Global)
-    → HasFewAnswers evaluation.trace → older ≡ kept_at old.entries key → AreNewest evaluation (items_of older) kept.items
+    → HasFewAnswers evaluation.trace → older ≡ kept_at old.entries key → AreNewest evaluation (evaluations_in older) kept.items
     → middle ≡ lru_cache (remove_entry (key_eq key) old.entries) old.cap → PutsNew purpose (key, kept) middle new
     → Keeps (key_of key) evaluation.trace (with_evals contents parses counts purpose old) (with_evals contents parses counts purpose new)
 Keeps-put contents parses counts purpose old middle new key evaluation older kept few found newest removed puts =
     let first : List (List Question) → List (Key × List (List Question)) =
     λ traces. placed purpose old.cap (key_of key, traces) (remove_entry (same_key (key_of key)) (traces_by_key old.entries)) in
-    let before : traces_of (items_of older) ≡ traces_at (with_evals contents parses counts purpose old) (key_of key) = traces-of-kept old.entries key older found in
+    let before : traces_of (evaluations_in older) ≡ traces_at (with_evals contents parses counts purpose old) (key_of key) = traces-of-kept old.entries key older found in
     record {
       few = λ _. elim (traces-put purpose old middle new key kept removed puts) [
         | inl put ↦ elim newest.traces [
@@ -179,10 +179,10 @@ without_step : (content : List ℕ) (entry : ContentKey × Result (Rc Makefile G
 without_step content entry entries true rest is = refl
 without_step content entry entries false rest is = ap (λ more. entry.0.content ∷ more) is
 
-contents-removed : (parses : KeptParses) (key : ContentKey) → contents_of (remove_entry (content_eq key) parses) ≡ without key.content (contents_of parses)
+contents-removed : (parses : KeptParses) (key : ContentKey) → contents_of (remove_entry (content_eq key) parses) ≡ without_content key.content (contents_of parses)
 contents-removed [] key = refl
 contents-removed (entry ∷ parses) key =
-    without_step key.content entry parses (bytes_eq key.content entry.0.content) (without key.content (contents_of parses)) (contents-removed parses key)
+    without_step key.content entry parses (bytes_eq key.content entry.0.content) (without_content key.content (contents_of parses)) (contents-removed parses key)
 
 first-content : (parses : KeptParses) (key : ContentKey) (found : Option (ContentKey × Result (Rc Makefile Global) ParseFault))
     → lookup_entry (content_eq key) parses ≡ found → is_some found ≡ true
@@ -203,7 +203,7 @@ is_some-entry test (entry ∷ entries) = by (test entry.0) (is_some-entry test e
 
 -- the content of a parse that was used stands first
 pub contents-first : (parses : KeptParses) (key : ContentKey) → is_some (lookup (content_eq key) parses) ≡ true
-    → contents_of (promoted (content_eq key) parses) ≡ key.content ∷ without key.content (contents_of parses)
+    → contents_of (promoted (content_eq key) parses) ≡ key.content ∷ without_content key.content (contents_of parses)
 contents-first parses key there =
     first-content parses key (lookup_entry (content_eq key) parses) refl (is_some-entry (content_eq key) parses ∙ there)
     ∙ ap (λ rest. key.content ∷ rest) (contents-removed parses key)

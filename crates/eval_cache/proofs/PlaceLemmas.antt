@@ -10,7 +10,7 @@ use Rattle.lru.proofs.CallerLemmas.{Contains-take}
 use Rattle.lru.specs.LruCache.{LruCache, lru_cache, demoted, put_entries}
 use Rattle.eval_cache.specs.declared.purpose.Purpose.{Purpose}
 use Rattle.eval_cache.specs.declared.purpose.Purpose.TheVariants as variants
-use Rattle.eval_cache.specs.Keeping.{goes_last, placed, PutsNew}
+use Rattle.eval_cache.specs.CacheOrder.{goes_last, placed, PutsNew}
 
 -- what is put under a key that isn't there stands before as many others as there may be
 pub put-new : {K X : Type 0} (eq : K → K → Bool) (cache : LruCache K X) (key : K) (value : X) → lookup_entry (eq key) cache.entries ≡ None

@@ -1,9 +1,9 @@
 -- A cache is used some times.
 use Rattle.std.proofs.Common.{◌≡◌, ◌∙◌, ap, sym, subst, refl, arith, ℕ, Bool, true, false, List, [], ◌∷◌, inl, inr}
 use Rattle.eval_cache.specs.Cache.{CacheValue, count_parse, holds_parse, one_more}
-use Rattle.eval_cache.specs.Parsing.{AsksParse, AsksInTurn, AsksParses}
-use Rattle.eval_cache.specs.Using.{StaysUp, UsesCache}
-use Rattle.eval_cache.specs.declared.counting.Counts.{Counts}
+use Rattle.eval_cache.specs.Parses.{AsksParse, AsksInTurn, AsksParses}
+use Rattle.eval_cache.specs.CacheUse.{StaysUp, UsesCache}
+use Rattle.eval_cache.specs.declared.counts.Counts.{Counts}
 
 up-same : (old new : ℕ) → new ≡ old → StaysUp old new
 up-same old new same = omega (arith, same)

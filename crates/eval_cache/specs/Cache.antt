@@ -4,9 +4,9 @@ use Rattle.std.specs.List.{list_any}
 use Rattle.std.specs.Map.{lookup}
 use Rattle.std.specs.Str.{bytes_eq}
 use Rattle.mk_paths.specs.FilesView.{Question}
-use Rattle.eval_cache.specs.declared.counting.Counts.{Counts}
-use Rattle.eval_cache.specs.declared.looking.Look.{Look}
-use Rattle.eval_cache.specs.declared.looking.Look.TheVariants.{Hit, Miss}
+use Rattle.eval_cache.specs.declared.counts.Counts.{Counts}
+use Rattle.eval_cache.specs.declared.look.Look.{Look}
+use Rattle.eval_cache.specs.declared.look.Look.TheVariants.{Hit, Miss}
 use Rattle.eval_cache.specs.declared.purpose.Purpose.{Purpose}
 use Rattle.eval_cache.specs.declared.purpose.Purpose.TheVariants.{Asking}
 use Rattle.eval_cache.specs.Keys.{Key, same_key}

@@ -1,16 +1,17 @@
 -- What the tables of a cache hold, and what makes it right.
 use Rattle.std.specs.Prelude.{◌≡◌, ◌≤◌, ◌⊎◌, ◌-◌, ℕ, List, [], ◌∷◌, length, map, take, Option, Some, None, Result, Contains}
+use Rattle.std.specs.Prelude.{IfOk, IfSome}
 use Rattle.turn_amounts.specs.declared.TheConstants.{MOST_ANSWERS, MOST_EVALUATIONS}
 use Rattle.std.specs.List.{AllByRecursion}
 use Rattle.std.specs.declared.alloc.Global.{Global}
 use Rattle.std.specs.declared.rc.Rc.{Rc}
 use Rattle.std.specs.declared.vec.Vec.{Vec}
-use Rattle.mk_ast.specs.Parsing.{parsed}
+use Rattle.mk_ast.specs.Parser.{parsed}
 use Rattle.mk_ast.specs.declared.nodes.Makefile.{Makefile}
-use Rattle.mk_ast.specs.declared.parsing.ParseFault.{ParseFault}
-use Rattle.mk_eval.specs.Trees.{tree_in}
+use Rattle.mk_ast.specs.declared.parser.ParseFault.{ParseFault}
+use Rattle.mk_eval.specs.Trees.{tree_or_fault}
 use Rattle.mk_paths.specs.FilesView.{Question}
-use Rattle.read_trace.specs.declared.evaluating.Evaluation.{Evaluation}
+use Rattle.read_trace.specs.declared.evaluation.Evaluation.{Evaluation}
 use Rattle.eval_cache.specs.declared.contents.ContentKey.{ContentKey}
 use Rattle.eval_cache.specs.declared.key.EvalKey.{EvalKey}
 use Rattle.eval_cache.specs.Keys.{Key, key_of}
@@ -52,18 +53,18 @@ AreShort kept = AllByRecursion (λ evaluation. HasFewAnswers evaluation.value.tr
 abbrev pub AreTrees : KeptParses → Type 0
 AreTrees parses =
     (content : ContentKey) (parse : Result (Rc Makefile Global) ParseFault) → Contains parses (content, parse)
-    → tree_in parse ≡ parsed content.content
+    → tree_or_fault parse ≡ parsed content.content
 
 -- each evaluation that is kept is right for its key, and few of them are kept for each
-abbrev pub AreKept : KeptEvaluations → Type 0
-AreKept evals =
+abbrev pub AreRightForKeys : KeptEvaluations → Type 0
+AreRightForKeys evals =
     (key : EvalKey) (kept : Vec (Rc Evaluation Global) Global) → Contains evals (key, kept)
     → AreRight (key_of key) kept.items × AreShort kept.items
 
 -- what is kept may be used
 pub record IsRightCache (parses : KeptParses) (evals : KeptEvaluations) : Type 0 where
   pub trees : AreTrees parses
-  pub evaluations : AreKept evals
+  pub evaluations : AreRightForKeys evals
 
 -- the evaluation is one of those that are kept
 abbrev pub IsOneOf : List (Rc Evaluation Global) → Evaluation → Type 0
@@ -71,9 +72,9 @@ IsOneOf [] evaluation = ⊥
 IsOneOf (one ∷ kept) evaluation = (one.value ≡ evaluation) ⊎ IsOneOf kept evaluation
 
 -- the evaluations of a key, or none
-abbrev pub items_of : Option (Vec (Rc Evaluation Global) Global) → List (Rc Evaluation Global)
-items_of None = []
-items_of (Some kept) = kept.items
+abbrev pub evaluations_in : Option (Vec (Rc Evaluation Global) Global) → List (Rc Evaluation Global)
+evaluations_in None = []
+evaluations_in (Some kept) = kept.items
 
 -- All that is right of older evaluations of a key and of a new one is right of these. They are the newest four with the
 -- new one first, or the newest three of the older ones.
@@ -82,3 +83,7 @@ pub record AreNewest (evaluation : Evaluation) (older kept : List (Rc Evaluation
   pub short : HasFewAnswers evaluation.trace → AreShort older → AreShort kept
   pub traces : (traces_of kept ≡ take MOST_EVALUATIONS (evaluation.trace ∷ traces_of older))
       ⊎ (traces_of kept ≡ take (MOST_EVALUATIONS - 1) (traces_of older))
+
+-- where a function succeeds, a parse that it gives is the tree of this content, or its fault
+abbrev pub GivesParseOf : {F : Type 0} → Result (Option (Result (Rc Makefile Global) ParseFault)) F → List ℕ → Type 0
+GivesParseOf result content = IfOk result (λ found. IfSome found (λ parse. tree_or_fault parse ≡ parsed content))

@@ -1,8 +1,9 @@
 pub mod Keys
 pub mod Right
-pub mod Looking
+pub mod Look
 pub mod Cache
 pub mod Held
-pub mod Keeping
-pub mod Parsing
-pub mod Using
+pub mod CacheOrder
+pub mod Parses
+pub mod CacheUse
+pub mod Looks

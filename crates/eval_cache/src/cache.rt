@@ -1,21 +1,22 @@
 // The cache of parses and evaluations.
-ghost use Rattle.std.specs.Prelude.{◌≡◌, ◌≤◌, false, length, is_some, IfOk, IfErr, IfSome, OnOk, OnErr};
+ghost use Rattle.std.specs.Prelude.{◌≡◌, ◌≤◌, false, length, is_some, IfOk, OnOk, OnErr};
 ghost use Rattle.turn_amounts.specs.declared.TheConstants.{MOST_CHECKS};
 ghost use Rattle.std.specs.NonZero.{non_zero_usize_get};
-ghost use Rattle.mk_ast.specs.Parsing.{parsed};
-ghost use Rattle.mk_eval.specs.Trees.{tree_in};
+ghost use Rattle.mk_ast.specs.Parser.{parsed};
+ghost use Rattle.mk_eval.specs.Trees.{tree_or_fault};
 ghost use Rattle.eval_cache.specs.Keys.{Key, key_of};
 ghost use Rattle.eval_cache.specs.Right.{IsRight};
-ghost use Rattle.eval_cache.specs.Looking.{agreeing, IsAgreed, IsFound, ChecksAmong, FailsAmong};
-ghost use Rattle.eval_cache.specs.Cache.{empty_cache, size_for, holds_parse, traces_at, count_look};
-ghost use Rattle.eval_cache.specs.Keeping.{Keeps, HandsOut, PutsParse, looked_at};
-ghost use Rattle.eval_cache.specs.Using.{UsesCache};
-ghost use Rattle.eval_cache.specs.Held.{AreNewest, items_of};
+ghost use Rattle.eval_cache.specs.Cache.{empty_cache, size_for, holds_parse, traces_at};
+ghost use Rattle.eval_cache.specs.CacheOrder.{Keeps, HandsOut, PutsParse};
+ghost use Rattle.eval_cache.specs.CacheUse.{UsesCache};
+ghost use Rattle.eval_cache.specs.Held.{AreNewest, evaluations_in, GivesParseOf};
+ghost use Rattle.eval_cache.specs.Looks.{FindsByLook, TellsChecks, AsksChecks, FailsChecking, CountsHit};
+ghost use Rattle.eval_cache.specs.Looks.{PutsHitFirst, TellsAgreementAt, FindsAgreed};
 
 use crate::contents::ContentKey;
-use crate::counting::Counts;
+use crate::counts::Counts;
 use crate::key::EvalKey;
-use crate::looking::{Look, first_agreeing};
+use crate::look::{Look, first_agreeing};
 use crate::purpose::{Purpose, put_new};
 use lru::LruCache;
 use mk_ast::{Makefile, ParseError, ParseFault, parse};
@@ -127,18 +128,13 @@ impl EvalCache {
         key: &EvalKey,
         files: &mut F,
     ) -> Result<(Look, u64), FilesFault>
-        ensures found { IfOk result (λ found. IsFound (F.view files.old).files (key_of key.now)
-            (traces_at self.old (key_of key.now)) found.1 found.0) }
-        ensures checked { IfOk result (λ found. found.1
-            ≡ (agreeing (F.view files.old).files (traces_at self.old (key_of key.now))).1) }
+        ensures found { FindsByLook result (F.view files.old).files self.old key.now }
+        ensures checked { TellsChecks result (F.view files.old).files self.old key.now }
         ensures bound { IfOk result (λ found. found.1 ≤ MOST_CHECKS) }
-        ensures asks { OnOk result (ChecksAmong (F.view files.old)
-            (traces_at self.old (key_of key.now)) (F.view files.new)) }
-        ensures fails { IfErr result (λ fault.
-            FailsAmong F.fails_with (F.view files.old) (F.view files.new) fault) }
-        ensures counted { IfOk result (λ found. self.new.counts ≡ count_look found.0 self.old.counts) }
-        ensures order { IfOk result (λ found. self.new.traces
-            ≡ looked_at found.0 (key_of key.now) self.old) }
+        ensures asks { AsksChecks result (F.view files.old) (F.view files.new) self.old key.now }
+        ensures fails { FailsChecking F.fails_with result (F.view files.old) (F.view files.new) }
+        ensures counted { CountsHit result self.old self.new }
+        ensures order { PutsHitFirst result self.old self.new key.now }
         ensures err { OnErr result (self.new ≡ self.old) }
         ensures traces { (other : Key) → traces_at self.new other ≡ traces_at self.old other }
         ensures parses { self.new.contents ≡ self.old.contents }
@@ -184,7 +180,7 @@ impl EvalCache {
     // The parse that is kept for this content, or else a new one, which is then kept if there is memory for
     // that.
     fn kept_or_new(&mut self, content: &Content) -> Result<Parse, AllocError>
-        ensures tree { IfOk result (λ found. tree_in found ≡ parsed content.now) }
+        ensures tree { IfOk result (λ found. tree_or_fault found ≡ parsed content.now) }
         ensures handed { OnOk result (HandsOut content.now self.old self.new) }
         ensures err { OnErr result (self.new ≡ self.old) }
     {
@@ -208,8 +204,7 @@ impl EvalCache {
     // The parse that is kept for this content, if one is.
     fn kept_parse(&self, key: &ContentKey) -> Result<Option<Parse>, AllocError>
         ensures held { IfOk result (λ found. is_some found ≡ holds_parse self.now key.now.content) }
-        ensures tree { IfOk result (λ found. IfSome found (λ parse.
-            tree_in parse ≡ parsed key.now.content)) }
+        ensures tree { GivesParseOf result key.now.content }
     {
         match self.parses.peek(key) {
             Some(parse) => Ok(Some(share(parse)?)),
@@ -219,7 +214,7 @@ impl EvalCache {
 
     // Keeps the parse of a content, if there is memory for that. If a walk fills the cache with it, it stands last.
     fn keep_parse(&mut self, key: ContentKey, parse: &Parse)
-        requires tree { tree_in parse.now ≡ parsed key.content }
+        requires tree { tree_or_fault parse.now ≡ parsed key.content }
         requires anew { holds_parse self.old key.content ≡ false }
         ensures contents { PutsParse key.content self.old self.new }
         ensures counts { self.new.counts ≡ self.old.counts }
@@ -240,15 +235,11 @@ impl EvalCache {
         key: &EvalKey,
         files: &mut F,
     ) -> Result<(Option<Rc<Evaluation>>, u64), FilesFault>
-        ensures checked { IfOk result (λ found. (is_some found.0, found.1)
-            ≡ agreeing (F.view files.old).files (traces_at self.now (key_of key.now))) }
-        ensures found { IfOk result (λ found. IfSome found.0 (λ evaluation.
-            IsAgreed (F.view files.old).files (key_of key.now) found.1 evaluation.value)) }
-        ensures asks { OnOk result (ChecksAmong (F.view files.old)
-            (traces_at self.now (key_of key.now)) (F.view files.new)) }
+        ensures checked { TellsAgreementAt result (F.view files.old).files self.now key.now }
+        ensures found { FindsAgreed result (F.view files.old).files key.now }
+        ensures asks { AsksChecks result (F.view files.old) (F.view files.new) self.now key.now }
         ensures bound { IfOk result (λ found. found.1 ≤ MOST_CHECKS) }
-        ensures fails { IfErr result (λ fault.
-            FailsAmong F.fails_with (F.view files.old) (F.view files.new) fault) }
+        ensures fails { FailsChecking F.fails_with result (F.view files.old) (F.view files.new) }
     {
         match self.evals.peek(key) {
             Some(kept) => first_agreeing(kept.as_slice(), files),
@@ -258,7 +249,7 @@ impl EvalCache {
 }
 
 impl Parses for EvalCache {
-    ghost use Rattle.eval_cache.specs.Parsing.{AsksParses, AsksParses-none, AsksParses-on};
+    ghost use Rattle.eval_cache.specs.Parses.{AsksParses, AsksParses-none, AsksParses-on};
 
     ghost becomes = { AsksParses };
 
@@ -272,7 +263,7 @@ impl Parses for EvalCache {
     /// dropped next, unless it is used before. It fails only if memory for the tree runs out, or if no more can share
     /// it.
     fn parsed(&mut self, content: &Content) -> Result<Parse, AllocError>
-        ensures tree { IfOk result (λ found. tree_in found ≡ parsed content.now) }
+        ensures tree { IfOk result (λ found. tree_or_fault found ≡ parsed content.now) }
         ensures left { AsksParses self.old self.new }
         ensures uses { UsesCache self.old self.new }
         ensures handed { OnOk result (HandsOut content.now self.old self.new) }
@@ -294,7 +285,7 @@ fn capacity(size: usize) -> NonZeroUsize
 
 // The tree of a file with this content, or its fault.
 fn parse_anew(alloc: Global, content: &Content) -> Result<Parse, AllocError>
-    ensures { IfOk result (λ found. tree_in found ≡ parsed content.now) }
+    ensures { IfOk result (λ found. tree_or_fault found ≡ parsed content.now) }
 {
     match parse(alloc, content.as_slice()) {
         Ok(makefile) => Ok(Ok(Rc::new(alloc, makefile)?)),
@@ -305,7 +296,7 @@ fn parse_anew(alloc: Global, content: &Content) -> Result<Parse, AllocError>
 
 // The same parse once more, with the same tree.
 fn share(parse: &Parse) -> Result<Parse, AllocError>
-    ensures { IfOk result (λ shared. tree_in shared ≡ tree_in parse.now) }
+    ensures { IfOk result (λ shared. tree_or_fault shared ≡ tree_or_fault parse.now) }
 {
     match parse {
         Ok(makefile) => Ok(Ok(makefile.clone()?)),
@@ -320,7 +311,7 @@ fn with_newest(
     older: Option<Vec<Rc<Evaluation>>>,
     evaluation: Rc<Evaluation>,
 ) -> Vec<Rc<Evaluation>>
-    ensures { AreNewest evaluation.value (items_of older) result.items }
+    ensures { AreNewest evaluation.value (evaluations_in older) result.items }
 {
     let mut kept = match older {
         Some(kept) => kept,

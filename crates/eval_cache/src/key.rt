@@ -1,7 +1,6 @@
 // Keys of evaluations.
-ghost use Rattle.std.specs.Prelude.{◌≡◌, IfOk, map, option_map, string_bytes};
-ghost use Rattle.mk_eval.specs.Views.{flavors_in};
-ghost use Rattle.eval_cache.specs.Keys.{key_of, key_for};
+ghost use Rattle.std.specs.Prelude.{◌≡◌};
+ghost use Rattle.eval_cache.specs.Keys.{key_of, MakesKey, CopiesFlavors};
 
 use mk_paths::{Name, Settings};
 use mk_text::Profile;
@@ -27,8 +26,7 @@ impl EvalKey {
         name: &Name,
         flavors: Option<&[String]>,
     ) -> Result<EvalKey, AllocError>
-        ensures { IfOk result (λ key. key_of key
-            ≡ key_for settings.now name.now (flavors_in flavors.entry)) }
+        ensures { MakesKey result settings.now name.now flavors.entry }
     {
         Ok(EvalKey {
             profile: settings.profile,
@@ -61,8 +59,7 @@ fn copy_flavors(
     alloc: Global,
     flavors: Option<&[String]>,
 ) -> Result<Option<Vec<String>>, AllocError>
-    ensures { IfOk result (λ copied. option_map (λ given. map string_bytes given.items) copied
-        ≡ flavors_in flavors.entry) }
+    ensures { CopiesFlavors result flavors.entry }
 {
     match flavors {
         Some(flavors) => Ok(Some(clones_of(alloc, flavors)?)),

@@ -4,13 +4,13 @@
 
 mod cache;
 mod contents;
-mod counting;
+mod counts;
 mod key;
-mod looking;
+mod look;
 mod purpose;
 
 pub use cache::EvalCache;
-pub use counting::Counts;
+pub use counts::Counts;
 pub use key::EvalKey;
-pub use looking::Look;
+pub use look::Look;
 pub use purpose::Purpose;

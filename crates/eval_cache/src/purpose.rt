@@ -1,8 +1,8 @@
 // What a cache is used for, and what goes first by that.
 ghost use Rattle.std.specs.Prelude.{◌≡◌, true, None};
 ghost use Rattle.std.specs.Map.{lookup_entry};
-ghost use Rattle.eval_cache.specs.Keeping as spec;
-ghost use Rattle.eval_cache.specs.Keeping.{PutsNew};
+ghost use Rattle.eval_cache.specs.CacheOrder as spec;
+ghost use Rattle.eval_cache.specs.CacheOrder.{PutsNew};
 
 use lru::LruCache;
 use std::hash::Hash;

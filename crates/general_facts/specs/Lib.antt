@@ -1,3 +1,4 @@
+pub mod Ascii
 pub mod Bools
 pub mod Options
 pub mod Lists

@@ -1,3 +1,3 @@
-//! Facts about booleans, options, lists, texts and finite maps that the proofs of several crates need,
-//! and that std doesn't have. There is no code here.
+//! Names of bytes, and facts about booleans, options, lists, texts and finite maps that the proofs of
+//! several crates need and std doesn't have. There is no code here.
 #![tactic(auto)]

@@ -5,17 +5,17 @@ use Rattle.std.specs.List.{flat_map}
 use Rattle.std.specs.Prelude.{Vec}
 use Rattle.text_parts.specs.Ordered.{in_order-again}
 use Rattle.mk_paths.specs.World.{World, files_in}
-use Rattle.mk_paths.specs.declared.asking.FilesFault.{FilesFault}
-use Rattle.ports_index.specs.Filling.{is_one_of}
+use Rattle.mk_paths.specs.declared.files.FilesFault.{FilesFault}
+use Rattle.ports_index.specs.FilledRows.{is_one_of}
 use Rattle.ports_index.specs.Index.{listed_paths, needed_paths}
-use Rattle.ports_index.specs.Naming.{AreInOrder, directories, named_at}
+use Rattle.ports_index.specs.TreePaths.{AreInOrder, directories, named_at}
 use Rattle.ports_index.specs.PathOutcomes.{outcome_at}
 use Rattle.index_store.specs.Entries.{Entries, StoredValue}
-use Rattle.index_keep.specs.Keeping.{IsAtEnd}
+use Rattle.index_keep.specs.Keeper.{IsAtEnd}
 use Rattle.index_keep.specs.Last.{HaveRowsAlone, LeavesFresh, is_fresh_of}
 use Rattle.index_keep.specs.Shown.{ShownRow, ShownRows, fresh, no_name, show_stored, shown}
-use Rattle.index_keep.specs.Walking.{AreNeededBeside, HasOrder, row_stays}
-use Rattle.index_keep.specs.declared.walking.LastStage.{LastStage}
+use Rattle.index_keep.specs.Walk.{AreNeededBeside, HasOrder, row_stays}
+use Rattle.index_keep.specs.declared.walk.LastStage.{LastStage}
 use Rattle.index_keep.proofs.ShownLemmas.{entries-fresh}
 use Rattle.ports_index.proofs.MakefileLemmas.{same_by}
 use Rattle.index_keep.proofs.WalkLemmas.{decided-there, needed-has, there-fresh}

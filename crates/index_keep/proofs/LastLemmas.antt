@@ -8,19 +8,19 @@ use Rattle.std.specs.Str.{bytes_eq}
 use Rattle.mk_paths.specs.World.{World}
 use Rattle.ports_index.specs.Alike.{AlikeRowsListTheSame, AreAlikeAt, NameAlike}
 use Rattle.ports_index.specs.Efforts.{has_makefile}
-use Rattle.ports_index.specs.Filling.{is_one_of}
+use Rattle.ports_index.specs.FilledRows.{is_one_of}
 use Rattle.ports_index.specs.Index.{needed_among}
-use Rattle.ports_index.specs.Naming.{listed_from}
+use Rattle.ports_index.specs.TreePaths.{listed_from}
 use Rattle.ports_index.specs.PathOutcomes.{PathOutcome}
-use Rattle.ports_index.specs.Seen.{Said, entries_in, has_asked_for, known_in, known_row, names_in, said_in}
-use Rattle.ports_index.specs.declared.keeping.MemoryRows.{MemoryRows}
+use Rattle.ports_index.specs.Seen.{Said, entries_in, has_asked_for, known_in, known_row, names_said_in, said_in}
+use Rattle.ports_index.specs.declared.memory_rows.MemoryRows.{MemoryRows}
 use Rattle.ports_index.specs.declared.known_index.KnownIndex.{KnownIndex}
 use Rattle.row_text.specs.Rows.{RowValue, row_of}
 use Rattle.index_store.specs.Entries.{StoredValue, Entries}
 use Rattle.index_keep.specs.Last.{IsLast, NamesAsBefore, Recalls, RecallsLists, Serves, led_to, listed_in, needed_before, needed_of, paths_in}
 use Rattle.index_keep.specs.declared.last_index.LastIndex.{LastIndex}
 use Rattle.index_keep.specs.declared.last_index.LastLists.{LastLists}
-use Rattle.index_keep.specs.Walking.{HasRowMore}
+use Rattle.index_keep.specs.Walk.{HasRowMore}
 use Rattle.index_keep.proofs.ShownLemmas.{entries-fresh}
 use Rattle.index_keep.specs.Shown.{ShownRow, ShownRows, shown, show_row, show_stored, asked_one, fresh, fresh_said, said_if_fresh, said_in_row}
 use Rattle.index_keep.proofs.WalkLemmas.{alike-same, lacking-there}
@@ -28,9 +28,9 @@ use Rattle.index_keep.proofs.WalkLemmas.{alike-same, lacking-there}
 module _ (test : List ℕ → Bool) (rows : ShownRows) (index : KnownIndex) (last : IsLast test rows index) where
   -- whether a path's row asked for a name that has changed
   abbrev pub asked : List ℕ → Bool
-  asked path = has_asked_for test (names_in index.rows path)
+  asked path = has_asked_for test (names_said_in index.rows path)
 
-  names_at : (path : List ℕ) (row : Option ShownRow) → rows path ≡ row → names_in index.rows path ≡ option_map (λ (said : Said). said.names) (option_map said_in_row row)
+  names_at : (path : List ℕ) (row : Option ShownRow) → rows path ≡ row → names_said_in index.rows path ≡ option_map (λ (said : Said). said.names) (option_map said_in_row row)
   names_at path row is = ap (option_map (λ (said : Said). said.names)) (last.says path ∙ ap (option_map said_in_row) is)
 
   pub asked-there : (path : List ℕ) (row : ShownRow) → rows path ≡ Some row → asked path ≡ asked_one test row.row

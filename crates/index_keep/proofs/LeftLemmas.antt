@@ -4,7 +4,7 @@ use Rattle.std.proofs.lemmas.Bool.{false≢true}
 use Rattle.std.proofs.lemmas.List.Sums.{sum_by-cons}
 use Rattle.std.proofs.lemmas.Slice.Eq.{bytes_eq-Decides}
 use Rattle.std.specs.List.{filter, filter_map, sum_by}
-use Rattle.mk_base.specs.declared.metering.TheConstants.{UNITS}
+use Rattle.mk_base.specs.declared.budget.TheConstants.{UNITS}
 use Rattle.turn_amounts.specs.declared.TheConstants.{MOST_CHECKS}
 use Rattle.mk_eval.specs.Costs.{CostFew}
 use Rattle.std.specs.Str.{bytes_eq}
@@ -12,23 +12,23 @@ use Rattle.text_parts.specs.Order.{in_order}
 use Rattle.text_parts.specs.Ordered.{among-in_order}
 use Rattle.mk_paths.specs.World.{World}
 use Rattle.ports_index.specs.Efforts.{cost_over, decided, evaluations_at, evaluations_over, has_makefile, is_there}
-use Rattle.ports_index.specs.Filling.{is_one_of}
+use Rattle.ports_index.specs.FilledRows.{is_one_of}
 use Rattle.ports_index.specs.Index.{needed_paths}
 use Rattle.ports_index.specs.Pairs.{Pair, pair_at}
 use Rattle.ports_index.specs.PathLaws.{MakefilesAreEvaluated}
 use Rattle.ports_index.specs.PathOutcomes.{Absent, cost_at, outcome_at}
 use Rattle.ports_index.specs.RowLaws.{OneRowMoreLeavesLess}
-use Rattle.ports_index.specs.Spending.{ChecksFew, evaluation_cost, evaluations_of}
-use Rattle.ports_index.specs.declared.spending.Spent.{Spent}
-use Rattle.eval_ask.specs.Asking.{EvaluatesInTime, IsShort, IsUpBy, spent_in}
+use Rattle.ports_index.specs.Spent.{ChecksFew, evaluation_cost, evaluations_of}
+use Rattle.ports_index.specs.declared.spent.Spent.{Spent}
+use Rattle.eval_ask.specs.Ask.{EvaluatesInTime, IsShort, IsUpBy, spent_in}
 use Rattle.index_keep.specs.Paths.{IsPathAsk}
 use Rattle.index_keep.specs.Right.{fresh_row}
 use Rattle.index_keep.specs.Shown.{ShownRows, fresh, fresh_outcome}
-use Rattle.index_keep.specs.Turns.{GoesOn, PaysAll, RefreshView, RefreshingPays, StayFresh, TakesTurn, cost_left, evaluations_left, paths_left, refresh_at, spent_by, spent_in_all, units_left, units_saved}
+use Rattle.index_keep.specs.Turns.{ContinuesRefresh, PaysAll, RefreshView, RefreshingPays, StayFresh, IsRefreshTurn, cost_left, evaluations_left, paths_left, refresh_at, spent_by, spent_in_all, units_left, units_saved}
 use Rattle.index_keep.specs.declared.keeper.Refreshed.{Refreshed}
 use Rattle.index_keep.specs.declared.keeper.Refreshed.TheVariants as turned
-use Rattle.index_keep.specs.Walking.{IsLacking}
-use Rattle.index_keep.specs.declared.evaluating.PathAsk.{PathAsk}
+use Rattle.index_keep.specs.Walk.{IsLacking}
+use Rattle.index_keep.specs.declared.path_ask.PathAsk.{PathAsk}
 use Rattle.eval_ask.proofs.AnswerLemmas.{few-come}
 use Rattle.index_keep.proofs.KeepLemmas.{HaveFresh-current, lacking-none, left_less}
 use Rattle.index_keep.proofs.MadeLemmas.{none-at, one-evaluation}
@@ -79,7 +79,7 @@ few_by checks evaluations few some = omega (arith, few, some)
 pub goes-on : (world : World) (rows : ShownRows) (path : List ℕ) (units : ℕ) (before spent : Spent) (ask : PathAsk) → IsLacking world rows path → IsPathAsk world path ask
     → IsUpBy units before (spent_in ask.ask) → (spent_in ask.ask).units ≤ cost_at world path → spent_in_all before spent ≡ spent_in ask.ask
     → EvaluatesInTime world (pair_at world path) units before (spent_in ask.ask) → IsShort units before (spent_in ask.ask)
-    → GoesOn world units (refresh_at rows before) (refresh_at rows (spent_in ask.ask)) spent
+    → ContinuesRefresh world units (refresh_at rows before) (refresh_at rows (spent_in ask.ask)) spent
 goes-on world rows path units before spent ask lacking is up low all in_time short = record {
   rows = λ other. refl;
   path = path;
@@ -126,7 +126,7 @@ pays_row : (cost evaluation left all begun spent : ℕ) (begun_checks checks : �
 pays_row cost evaluation left all begun spent begun_checks checks few sum paid =
     elim paid [ inl full ↦ omega (arith, sum, full) | inr saved ↦ omega (arith, few, sum, saved.0, saved.1) ]
 
-pays_by : CostFew → OneRowMoreLeavesLess → (world : World) (units : ℕ) (old new : RefreshView) (turned : Refreshed) → TakesTurn world units old new turned
+pays_by : CostFew → OneRowMoreLeavesLess → (world : World) (units : ℕ) (old new : RefreshView) (turned : Refreshed) → IsRefreshTurn world units old new turned
     → PaysAll world old new (spent_by turned)
 pays_by few law world units old new (turned.Evaluated spent) takes =
     let renews = takes.renews.0 in
@@ -155,7 +155,7 @@ fresh_put world path other old false true is = is
 fresh_put world path other old same false is = refl
 
 -- what is known of a path stays known
-pub stays-fresh : (world : World) (units : ℕ) (old new : RefreshView) (turned : Refreshed) → TakesTurn world units old new turned → StayFresh world old.rows new.rows
+pub stays-fresh : (world : World) (units : ℕ) (old new : RefreshView) (turned : Refreshed) → IsRefreshTurn world units old new turned → StayFresh world old.rows new.rows
 stays-fresh world units old new (turned.Evaluated spent) takes other needed is =
     let renews = takes.renews.0 in
     ap (λ row. is_some (if has_makefile world other then option_and_then fresh_outcome row else Some Absent)) (renews.rows other)

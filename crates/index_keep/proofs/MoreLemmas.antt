@@ -6,14 +6,14 @@ use Rattle.std.specs.Str.{bytes_eq}
 use Rattle.mk_paths.specs.World.{World}
 use Rattle.ports_index.specs.Alike.{AlikeRowsListTheSame}
 use Rattle.ports_index.specs.Efforts.{has_makefile}
-use Rattle.ports_index.specs.Filling.{is_one_of}
+use Rattle.ports_index.specs.FilledRows.{is_one_of}
 use Rattle.ports_index.specs.Index.{needed_paths}
 use Rattle.ports_index.specs.PathOutcomes.{Absent}
 use Rattle.ports_index.specs.Seen.{Said}
 use Rattle.index_keep.specs.Last.{HaveRowsAlone, NamesAsBefore, Recalls, RecallsLists, listed_in}
 use Rattle.index_keep.specs.Right.{AreDecided}
 use Rattle.index_keep.specs.Shown.{ShownRows, fresh, fresh_said}
-use Rattle.index_keep.specs.Walking.{HasRowMore, IsStage, KnowsBeside, KnowsRow, Says, paths_of}
+use Rattle.index_keep.specs.Walk.{HasRowMore, IsStage, KnowsBeside, KnowsRow, Says, paths_of}
 use Rattle.index_keep.specs.declared.last_index.LastIndex.{LastIndex}
 use Rattle.index_keep.specs.declared.last_index.LastLists.{LastLists}
 use Rattle.index_keep.specs.declared.stage.Stage.{Stage}

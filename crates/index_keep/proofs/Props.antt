@@ -9,14 +9,14 @@ use Rattle.eval_ask.proofs.Props.{Agrees-prop, HasComeTo-prop}
 use Rattle.index_keep.specs.declared.keeper.Progress.{Progress}
 use Rattle.index_keep.specs.declared.keeper.Progress.TheVariants.{Changed, Walking, Asking, Current, AtHand}
 use Rattle.index_keep.specs.declared.keeper.Keeper.{Keeper}
-use Rattle.index_keep.specs.declared.walking.Walk.{Walk}
-use Rattle.index_keep.specs.declared.walking.Walk.TheVariants.{Directories, Listed, Needed}
+use Rattle.index_keep.specs.declared.walk.Walk.{Walk}
+use Rattle.index_keep.specs.declared.walk.Walk.TheVariants.{Directories, Listed, Needed}
 use Rattle.index_keep.specs.Shown.{ShownRows}
 use Rattle.index_keep.specs.Right.{IsRightRow, AreKept, AreCurrent}
 use Rattle.index_keep.specs.Paths.{IsPathAsk}
-use Rattle.index_keep.specs.Walking.{IsWalk, KnowsBeside}
-use Rattle.index_keep.specs.declared.evaluating.PathAsk.{PathAsk}
-use Rattle.index_keep.specs.Keeping.{IsProgress, IsKept}
+use Rattle.index_keep.specs.Walk.{IsWalk, KnowsBeside}
+use Rattle.index_keep.specs.declared.path_ask.PathAsk.{PathAsk}
+use Rattle.index_keep.specs.Keeper.{IsProgress, IsKept}
 
 IsRightRow-prop : (world : World) (path : List ℕ) (row : RowValue) → IsProp (IsRightRow world path row)
 IsRightRow-prop world path row = hlevel (props, Agrees-prop)

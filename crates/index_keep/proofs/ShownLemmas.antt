@@ -1,14 +1,14 @@
 -- What is shown of stored rows, and what is fresh of them.
 use Rattle.std.proofs.Common.{◌≡◌, ◌∙◌, sym, ap, refl, ℕ, Bool, true, false, ◌||◌, if◌then◌else◌, List, [], ◌∷◌, Option, Some, None, option_map, option_and_then}
 use Rattle.std.specs.List.{list_any}
-use Rattle.ports_index.specs.Filling.{is_one_of}
+use Rattle.ports_index.specs.FilledRows.{is_one_of}
 use Rattle.ports_index.specs.Seen.{Said, entries_in, said_in}
-use Rattle.ports_index.specs.declared.keeping.MemoryRows.{MemoryRows}
+use Rattle.ports_index.specs.declared.memory_rows.MemoryRows.{MemoryRows}
 use Rattle.row_text.specs.Rows.{RowValue, row_of}
 use Rattle.index_store.specs.Entries as store
-use Rattle.index_store.specs.Entries.{StoredValue, Entries, Marks}
+use Rattle.index_store.specs.Entries.{StoredValue, Entries, MarksRowsOf}
 use Rattle.index_keep.specs.Shown.{ShownRow, ShownRows, shown, show_row, show_stored, asked_one, no_name, fresh, fresh_outcome, fresh_said, said_by, said_if_fresh, ShowsSame}
-use Rattle.index_keep.specs.Judging.{Fresh, Outdated, Unusable, judge, judge_row, said_of, is_outdated, fresh_at, outdated_at}
+use Rattle.index_keep.specs.Judgement.{Fresh, Outdated, Unusable, judge, judge_row, said_of, is_outdated, fresh_at, outdated_at}
 
 -- no row asked for a name of which there is none
 asked-no_name : (names : List (List ℕ)) → list_any no_name names ≡ false
@@ -72,7 +72,7 @@ module _ (test : List ℕ → Bool) where
   entry_marked (Some stored) marked is = mark_by stored marked ∙ stored_marked (row_of stored.text) stored.stale marked is
 
   -- rows that are marked are shown as they were before the names were forgotten
-  pub shown-marked : (paths : List (List ℕ)) (old new : Entries) → ((path : List ℕ) → is_one_of path paths ≡ outdated_at test old path) → Marks paths old new
+  pub shown-marked : (paths : List (List ℕ)) (old new : Entries) → ((path : List ℕ) → is_one_of path paths ≡ outdated_at test old path) → MarksRowsOf paths old new
       → ShowsSame (shown test old) (shown no_name new)
   shown-marked paths old new outdated marks path =
       ap (option_and_then (show_stored no_name)) (marks path) ∙ entry_marked (old path) (is_one_of path paths) (outdated path)
@@ -124,6 +124,6 @@ module _ (test : List ℕ → Bool) where
 
   -- where just the rows are marked that asked for a name, rows are shown as they were before the names were forgotten
   pub shown-asked : (paths : List (List ℕ)) (old new : Entries) → ((path : List ℕ) (one : StoredValue) (row : RowValue) → old path ≡ Some one → row_of one.text ≡ Some row → asked_one test row ≡ is_one_of path paths)
-      → Marks paths old new → ShowsSame (shown test old) (shown no_name new)
+      → MarksRowsOf paths old new → ShowsSame (shown test old) (shown no_name new)
   shown-asked paths old new asked marks path =
       ap (option_and_then (show_stored no_name)) (marks path) ∙ entry_asked (old path) (is_one_of path paths) (asked path)

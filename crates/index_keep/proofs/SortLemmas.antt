@@ -3,11 +3,11 @@ use Rattle.std.proofs.Common.{◌≡◌, ◌∙◌, sym, ap, subst, refl, ℕ, B
 use Rattle.std.proofs.lemmas.Slice.Eq.{bytes_eq-Decides}
 use Rattle.std.specs.Option.{option_map_or}
 use Rattle.std.specs.Str.{bytes_eq}
-use Rattle.ports_index.specs.Filling.{is_one_of}
+use Rattle.ports_index.specs.FilledRows.{is_one_of}
 use Rattle.ports_index.specs.Seen.{Said}
-use Rattle.index_store.specs.Entries.{StoredValue, Entries, SeenRow, AreRowsOf, path_of, value_in, stored_seen}
+use Rattle.index_store.specs.Entries.{StoredValue, Entries, SeenRow, AreRowsOf, row_path, value_in, stored_seen}
 use Rattle.index_store.specs.declared.path_rows.StoredRow.{StoredRow}
-use Rattle.index_keep.specs.Judging.{judge, said_of, is_outdated, fresh_at, outdated_at, known_with, known_by, outdated_in}
+use Rattle.index_keep.specs.Judgement.{judge, said_of, is_outdated, fresh_at, outdated_at, known_with, known_by, outdated_in}
 
 regroup : (a b c : Bool) → (a || (b || c)) ≡ ((a || b) || c)
 regroup true b c = refl
@@ -25,17 +25,17 @@ or-none false = refl
 module _ (test : List ℕ → Bool) (entries : Entries) where
   -- the rows so far are known
   abbrev pub KnowsRows : List SeenRow → (List ℕ → Option Said) → Type 0
-  KnowsRows rows known = (path : List ℕ) → known path ≡ (if is_one_of path (map path_of rows) then fresh_at test entries path else None)
+  KnowsRows rows known = (path : List ℕ) → known path ≡ (if is_one_of path (map row_path rows) then fresh_at test entries path else None)
 
   -- the rows so far that have to be marked are listed
   abbrev pub ListsOutdated : List SeenRow → List (List ℕ) → Type 0
-  ListsOutdated rows paths = (path : List ℕ) → is_one_of path paths ≡ (is_one_of path (map path_of rows) && outdated_at test entries path)
+  ListsOutdated rows paths = (path : List ℕ) → is_one_of path paths ≡ (is_one_of path (map row_path rows) && outdated_at test entries path)
 
   module _ (rows : List SeenRow) (row : SeenRow) (is : entries row.path ≡ Some (value_in row)) where
-    is_one-more : (path : List ℕ) (same : Bool) → bytes_eq row.path path ≡ same → is_one_of path (map path_of (rows ++ row ∷ [])) ≡ (is_one_of path (map path_of rows) || same)
-    is_one-more path same e = ap (is_one_of path) (map-append rows) ∙ one_of-append path (map path_of rows) (row.path ∷ []) ∙ ap (λ b. is_one_of path (map path_of rows) || b) (or-none (bytes_eq row.path path) ∙ e)
+    is_one-more : (path : List ℕ) (same : Bool) → bytes_eq row.path path ≡ same → is_one_of path (map row_path (rows ++ row ∷ [])) ≡ (is_one_of path (map row_path rows) || same)
+    is_one-more path same e = ap (is_one_of path) (map-append rows) ∙ one_of-append path (map row_path rows) (row.path ∷ []) ∙ ap (λ b. is_one_of path (map row_path rows) || b) (or-none (bytes_eq row.path path) ∙ e)
       where
-        map-append : (rows : List SeenRow) → map path_of (rows ++ row ∷ []) ≡ map path_of rows ++ row.path ∷ []
+        map-append : (rows : List SeenRow) → map row_path (rows ++ row ∷ []) ≡ map row_path rows ++ row.path ∷ []
         map-append [] = refl
         map-append (first ∷ rows) = ap (λ rest. first.path ∷ rest) (map-append rows)
 
@@ -70,7 +70,7 @@ module _ (test : List ℕ → Bool) (entries : Entries) where
 
       pub KnowsRows-more : KnowsRows (rows ++ row ∷ []) (known_with test row known)
       KnowsRows-more path =
-          put_by path (bytes_eq row.path path) (is_one_of path (map path_of rows)) (said_of (judge test (value_in row))) refl refl (knows path)
+          put_by path (bytes_eq row.path path) (is_one_of path (map row_path rows)) (said_of (judge test (value_in row))) refl refl (knows path)
           ∙ sym (ap (λ (b : Bool). if b then fresh_at test entries path else None) (is_one-more path (bytes_eq row.path path) refl))
 
     module _ (paths : List (List ℕ)) (lists : ListsOutdated rows paths) where
@@ -106,7 +106,7 @@ module _ (test : List ℕ → Bool) (entries : Entries) where
       pub ListsOutdated-more : ListsOutdated (rows ++ row ∷ []) (paths ++ outdated_in test row)
       ListsOutdated-more path =
           one_of-append path paths (outdated_in test row)
-          ∙ outdated_by path (bytes_eq row.path path) (is_one_of path (map path_of rows)) (is_outdated (judge test (value_in row))) refl refl (lists path)
+          ∙ outdated_by path (bytes_eq row.path path) (is_one_of path (map row_path rows)) (is_outdated (judge test (value_in row))) refl refl (lists path)
           ∙ sym (ap (λ b. b && outdated_at test entries path) (is_one-more path (bytes_eq row.path path) refl))
 
 -- a row among others
@@ -131,10 +131,10 @@ module _ (test : List ℕ → Bool) (entries : Entries) (passed : List StoredRow
       → KnowsRows test entries (map stored_seen passed) known → KnowsRows test entries (map stored_seen (passed ++ row ∷ [])) after
   KnowsRows-next known after adds knows path =
       adds path ∙ KnowsRows-more test entries (map stored_seen passed) (stored_seen row) is known knows path
-      ∙ ap (λ seen. if is_one_of path (map path_of seen) then fresh_at test entries path else None) (sym (map-append passed (row ∷ [])))
+      ∙ ap (λ seen. if is_one_of path (map row_path seen) then fresh_at test entries path else None) (sym (map-append passed (row ∷ [])))
 
   pub ListsOutdated-next : (paths after : List (List ℕ)) → after ≡ paths ++ outdated_in test (stored_seen row)
       → ListsOutdated test entries (map stored_seen passed) paths → ListsOutdated test entries (map stored_seen (passed ++ row ∷ [])) after
   ListsOutdated-next paths after adds lists path =
       ap (is_one_of path) adds ∙ ListsOutdated-more test entries (map stored_seen passed) (stored_seen row) is paths lists path
-      ∙ ap (λ seen. is_one_of path (map path_of seen) && outdated_at test entries path) (sym (map-append passed (row ∷ [])))
+      ∙ ap (λ seen. is_one_of path (map row_path seen) && outdated_at test entries path) (sym (map-append passed (row ∷ [])))

@@ -6,8 +6,8 @@ use Rattle.std.specs.List.{filter_map, flat_map}
 use Rattle.text_parts.specs.Ordered.{in_order-again}
 use Rattle.mk_paths.specs.World.{FileMap, World}
 use Rattle.ports_index.specs.Efforts.{decided, has_makefile}
-use Rattle.ports_index.specs.Filling.{is_one_of}
-use Rattle.ports_index.specs.Naming.{AreInOrder, directories, directory_of, listed_from, named_at}
+use Rattle.ports_index.specs.FilledRows.{is_one_of}
+use Rattle.ports_index.specs.TreePaths.{AreInOrder, directories, listable_directory, listed_from, named_at}
 use Rattle.ports_index.specs.PathOutcomes.{PathOutcome}
 use Rattle.index_keep.specs.Shown.{ShownRows}
 use Rattle.index_keep.proofs.WalkLemmas.{decided-absent, decided-known}
@@ -16,7 +16,7 @@ pub listed-order : (outcomes : List ℕ → PathOutcome) (directories : List (Li
 listed-order outcomes directories = in_order-again (flat_map (named_at outcomes) directories ++ directories)
 
 pub directories-order : (files : FileMap) → AreInOrder (directories files)
-directories-order files = in_order-again (filter_map directory_of (keys files))
+directories-order files = in_order-again (filter_map listable_directory (keys files))
 
 module _ (world : World) (entries : List ℕ → Option PathOutcome) (all paths : List (List ℕ)) where
   -- a stage of those that have no row

@@ -7,40 +7,40 @@ use Rattle.std.specs.Prelude.{Vec}
 use Rattle.std.specs.Str.{bytes_eq}
 use Rattle.text_parts.specs.Ordered.{among-in_order}
 use Rattle.mk_paths.specs.World.{World, files_in}
-use Rattle.port_deps.specs.Reading.{has_comma}
+use Rattle.port_deps.specs.ItemText.{has_comma}
 use Rattle.ports_index.specs.Alike.{AlikeRowsListTheSame, AreAlikeAt, NameAlike}
-use Rattle.ports_index.specs.Depending.{items_among, target_of, targets_in}
+use Rattle.ports_index.specs.Dependencies.{items_among, target_of, targets_in}
 use Rattle.ports_index.specs.Efforts.{decided, has_makefile, is_there}
-use Rattle.ports_index.specs.Filling.{is_one_of}
+use Rattle.ports_index.specs.FilledRows.{is_one_of}
 use Rattle.ports_index.specs.Index.{listed_paths, needed_among, needed_paths}
 use Rattle.ports_index.specs.Makefiles.{AreOfDirectories}
-use Rattle.ports_index.specs.Naming.{directories, listed_from, named_at, named_in}
+use Rattle.ports_index.specs.TreePaths.{directories, listed_from, named_at, named_in}
 use Rattle.ports_index.specs.Pairs.{pair_at}
 use Rattle.ports_index.specs.PathOutcomes.{PathOutcome, Absent, Faulty, Port, BadPort, Lists, BadList, FlavoredList, Other, cost_at, outcome_at}
-use Rattle.ports_index.specs.Spending.{SpendsOnPath, no_spending}
-use Rattle.ports_index.specs.declared.spending.Spent.{Spent}
+use Rattle.ports_index.specs.Spent.{SpendsOnPath, no_spending}
+use Rattle.ports_index.specs.declared.spent.Spent.{Spent}
 use Rattle.row_text.specs.Rows.{RowValue}
 use Rattle.ports_index.specs.RowLaws.{KnownRowsAreEnough, NeededAreNamed, SayAll, is_target_among}
 use Rattle.ports_index.specs.Seen.{Said, entries_in, known_in, known_row, said_in}
-use Rattle.ports_index.specs.declared.keeping.MemoryRows.{MemoryRows}
+use Rattle.ports_index.specs.declared.memory_rows.MemoryRows.{MemoryRows}
 use Rattle.index_keep.specs.Beside.{AreBeside, is_there_at}
 use Rattle.index_keep.specs.Last.{HaveRowsAlone, LeavesFresh, Recalls, SaysAll, is_fresh_of, led_to, needed_of, paths_in}
-use Rattle.index_keep.specs.declared.evaluating.FoundPath.{FoundPath}
+use Rattle.index_keep.specs.declared.path_ask.FoundPath.{FoundPath}
 use Rattle.index_keep.specs.declared.last_index.LastIndex.{LastIndex}
-use Rattle.index_keep.specs.declared.walking.DirectoryStage.{DirectoryStage}
-use Rattle.index_keep.specs.declared.walking.ListedStage.{ListedStage}
+use Rattle.index_keep.specs.declared.walk.DirectoryStage.{DirectoryStage}
+use Rattle.index_keep.specs.declared.walk.ListedStage.{ListedStage}
 use Rattle.index_keep.specs.declared.stage.Stage.{Stage}
-use Rattle.index_keep.specs.declared.walking.LastStage.{LastStage}
+use Rattle.index_keep.specs.declared.walk.LastStage.{LastStage}
 use Rattle.index_keep.specs.Shown.{ShownRow, ShownRows, ShowsSame, fresh, fresh_outcome, fresh_said, said_by, said_if_fresh, said_in_row}
 use Rattle.index_keep.specs.Right.{AreCurrent, AreDecided, AreKept, HaveFresh, IsRightRow, RenewsRow, fresh_row, is_evaluated, right_row}
-use Rattle.index_keep.specs.Keeping.{IsReadyFor}
-use Rattle.eval_ask.specs.Asking.{IsShort, MakesInTime}
+use Rattle.index_keep.specs.Keeper.{IsReadyFor}
+use Rattle.eval_ask.specs.Ask.{IsShort, MakesInTime}
 use Rattle.index_keep.specs.Paths.{IsMade}
 use Rattle.index_keep.specs.Turns.{Evaluates, refresh_at, spent_in_all}
-use Rattle.index_keep.specs.Walking.{AreNeededBeside, HasListed, HasPassed, HasRowMore, IsDirectoryStage, IsLacking, IsLastStage, IsListedStage, IsStage, LacksNone, LacksRow, ListsPaths, Says, listed_of, paths_of}
-use Rattle.index_keep.specs.declared.evaluating.MadeRow.{MadeRow}
-use Rattle.index_keep.specs.declared.walking.Walk.{Walk}
-use Rattle.row_text.specs.Seen.{row_seen}
+use Rattle.index_keep.specs.Walk.{AreNeededBeside, HasListed, HasPassed, HasRowMore, IsDirectoryStage, IsLacking, IsLastStage, IsListedStage, IsStage, LacksNone, LacksRow, ListsPaths, Says, listed_of, paths_of}
+use Rattle.index_keep.specs.declared.path_ask.MadeRow.{MadeRow}
+use Rattle.index_keep.specs.declared.walk.Walk.{Walk}
+use Rattle.row_text.specs.Seen.{kept_row_seen}
 use Rattle.std.specs.Option.{option_or}
 use Rattle.index_keep.proofs.MadeLemmas.{there-found}
 use Rattle.index_keep.proofs.ShownLemmas.{entries-fresh}
@@ -501,7 +501,7 @@ last-at world rows last is place passed more same = record {
 -- ---- the row of a path is made, and written
 
 module _ (world : World) (old new : ShownRows) (walk : Walk) (path : List ℕ) (ready : IsReadyFor world old walk path) (made : MadeRow) (is : IsMade world path made)
-    (puts : (other : List ℕ) → new other ≡ (if bytes_eq (string_bytes made.path) other then Some (record { row = row_seen made.row; stale = false }) else old other)) where
+    (puts : (other : List ℕ) → new other ≡ (if bytes_eq (string_bytes made.path) other then Some (record { row = kept_row_seen made.row; stale = false }) else old other)) where
   put_fresh : (other : List ℕ) → new other ≡ (if bytes_eq path other then Some (fresh_row world path) else old other)
   put_fresh other =
       puts other ∙ ap (λ (r : RowValue). if bytes_eq (string_bytes made.path) other then Some (let one : ShownRow = record { row = r; stale = false } in one) else old other) is.row.same
@@ -520,12 +520,12 @@ module _ (world : World) (old new : ShownRows) (walk : Walk) (path : List ℕ) (
   there_by other true = refl
   there_by other false = refl
 
-  pub more-made : HasRowMore world (string_bytes made.path) (said_by (row_seen made.row)) old new
+  pub more-made : HasRowMore world (string_bytes made.path) (said_by (kept_row_seen made.row)) old new
   more-made = record {
     lacking = subst (IsLacking world old) (sym is.at) ready.lacking;
     says = λ other. said-put world old ready.kept path itself makefile new put_fresh other
         ∙ ap (λ (r : RowValue). if bytes_eq path other then Some (said_by r) else fresh_said old other) (sym is.row.same)
-        ∙ ap (λ at. if bytes_eq at other then Some (said_by (row_seen made.row)) else fresh_said old other) (sym is.at);
+        ∙ ap (λ at. if bytes_eq at other then Some (said_by (kept_row_seen made.row)) else fresh_said old other) (sym is.at);
     there = λ other. ap is_some (put_fresh other) ∙ there_by other (bytes_eq path other) ∙ ap (λ at. bytes_eq at other || is_some (old other)) (sym is.at);
   }
 

@@ -1,13 +1,13 @@
 -- The paths beside the listed ones on which the index depends.
 use Rattle.std.specs.Prelude.{◌≡◌, ◌&&◌, ◌||◌, ℕ, Bool, List, is_some}
 use Rattle.mk_paths.specs.World.{World}
-use Rattle.port_deps.specs.Reading.{has_comma}
+use Rattle.port_deps.specs.ItemText.{has_comma}
 use Rattle.ports_index.specs.Efforts.{has_makefile}
-use Rattle.ports_index.specs.Filling.{is_one_of}
-use Rattle.ports_index.specs.Naming.{AreInOrder}
+use Rattle.ports_index.specs.FilledRows.{is_one_of}
+use Rattle.ports_index.specs.TreePaths.{AreInOrder}
 use Rattle.ports_index.specs.RowLaws.{is_target_among}
 use Rattle.ports_index.specs.Seen.{entries_in, known_in}
-use Rattle.ports_index.specs.declared.keeping.MemoryRows.{MemoryRows}
+use Rattle.ports_index.specs.declared.memory_rows.MemoryRows.{MemoryRows}
 
 -- a path has a row or a makefile
 abbrev pub is_there_at : World → MemoryRows → List ℕ → Bool

@@ -3,36 +3,36 @@ use Rattle.std.specs.Prelude.{◌≡◌, ℕ, ◌++◌, true, false, List, Optio
 use Rattle.std.specs.Str.{bytes_eq}
 use Rattle.mk_paths.specs.World.{World, files_in}
 use Rattle.mk_eval.specs.Meaning.{means}
-use Rattle.mk_eval.specs.Sharing.{Agrees, questions_of}
+use Rattle.mk_eval.specs.Agreement.{Agrees, questions_of}
 use Rattle.eval_cache.specs.Keys.{key_for}
 use Rattle.pkg_path.specs.Paths.{path_if_one}
 use Rattle.ports_index.specs.Efforts.{has_makefile}
 use Rattle.ports_index.specs.Pairs.{Pair, pair_at}
 use Rattle.ports_index.specs.PathOutcomes.{cost_at, finding_at, finding_of_evaluation, own_directory}
 use Rattle.ports_index.specs.PathQuestions.{questions_at}
-use Rattle.ports_index.specs.Spending.{SpendsOnPath}
-use Rattle.ports_index.specs.declared.spending.Spent.{Spent}
+use Rattle.ports_index.specs.Spent.{SpendsOnPath}
+use Rattle.ports_index.specs.declared.spent.Spent.{Spent}
 use Rattle.row_text.specs.Rows.{RowValue}
-use Rattle.row_text.specs.Seen.{row_seen}
-use Rattle.eval_ask.specs.Asking.{EvaluatesInTime, HasComeTo, IsShort, IsUpBy, IsUpFrom, MakesInTime, spent_in}
+use Rattle.row_text.specs.Seen.{kept_row_seen}
+use Rattle.eval_ask.specs.Ask.{EvaluatesInTime, HasComeTo, IsShort, IsUpBy, IsUpFrom, MakesInTime, spent_in}
 use Rattle.index_keep.specs.Right.{IsRightRow, row_with}
-use Rattle.eval_ask.specs.declared.asking.Asked.{Asked}
-use Rattle.index_keep.specs.declared.evaluating.FoundPath.{FoundPath}
-use Rattle.index_keep.specs.declared.evaluating.MadeRow.{MadeRow}
-use Rattle.index_keep.specs.declared.evaluating.NamedDirectory.{NamedDirectory}
-use Rattle.index_keep.specs.declared.evaluating.NamedDirectory.TheVariants.{Own, OfPath}
-use Rattle.index_keep.specs.declared.evaluating.PathAsk.{PathAsk}
-use Rattle.index_keep.specs.declared.evaluating.PathTurned.{PathTurned}
-use Rattle.index_keep.specs.declared.evaluating.PathTurned.TheVariants.{More, Made}
+use Rattle.eval_ask.specs.declared.ask.Asked.{Asked}
+use Rattle.index_keep.specs.declared.path_ask.FoundPath.{FoundPath}
+use Rattle.index_keep.specs.declared.path_ask.MadeRow.{MadeRow}
+use Rattle.index_keep.specs.declared.path_ask.NamedDirectory.{NamedDirectory}
+use Rattle.index_keep.specs.declared.path_ask.NamedDirectory.TheVariants.{Own, OfPath}
+use Rattle.index_keep.specs.declared.path_ask.PathAsk.{PathAsk}
+use Rattle.index_keep.specs.declared.path_ask.PathTurned.{PathTurned}
+use Rattle.index_keep.specs.declared.path_ask.PathTurned.TheVariants.{More, Made}
 
 -- the directory that a path names, and the flavors with which its makefile is evaluated, if any are given
-abbrev pub directory_of : NamedDirectory → List ℕ
-directory_of Own = own_directory
-directory_of (OfPath path) = path.directory
+abbrev pub directory_named : NamedDirectory → List ℕ
+directory_named Own = own_directory
+directory_named (OfPath path) = path.directory
 
-abbrev pub flavors_of : NamedDirectory → Option (List (List ℕ))
-flavors_of Own = None
-flavors_of (OfPath path) = path.flavors
+abbrev pub flavors_named : NamedDirectory → Option (List (List ℕ))
+flavors_named Own = None
+flavors_named (OfPath path) = path.flavors
 
 -- it is the one that the path names; or the path names none
 abbrev pub IsNamed : List ℕ → Option NamedDirectory → Type 0
@@ -44,11 +44,11 @@ IsNamed path (Some (OfPath found)) = (bytes_eq path own_directory ≡ false) × 
 -- on which questions that depends, follows from the makefile's evaluation.
 pub record IsFoundAt (world : World) (found : FoundPath) : Type 0 where
   pub finding : finding_at world (string_bytes found.path)
-      ≡ finding_of_evaluation found.makefile (flavors_of found.named) (means world found.makefile (flavors_of found.named))
+      ≡ finding_of_evaluation found.makefile (flavors_named found.named) (means world found.makefile (flavors_named found.named))
   pub questions : questions_at world (string_bytes found.path)
-      ≡ found.placed ++ questions_of world.0 world.1 found.makefile (flavors_of found.named)
+      ≡ found.placed ++ questions_of world.0 world.1 found.makefile (flavors_named found.named)
   pub pair : ◌≡◌ {A = Option Pair} (pair_at world (string_bytes found.path))
-      (Some (record { makefile = found.makefile; flavors = flavors_of found.named }))
+      (Some (record { makefile = found.makefile; flavors = flavors_named found.named }))
   pub answered : Agrees (files_in world) found.placed
 
 -- what a path leads to: to this makefile, or to none
@@ -59,20 +59,20 @@ IsFoundOf world path None = has_makefile world path ≡ false
 -- the row that is made of an evaluation which was asked for
 abbrev pub row_made : FoundPath → Asked → RowValue
 row_made found asked =
-    row_with (finding_of_evaluation found.makefile (flavors_of found.named) asked.evaluation.value.outcome)
+    row_with (finding_of_evaluation found.makefile (flavors_named found.named) asked.evaluation.value.outcome)
     (found.placed ++ asked.evaluation.value.trace)
 
 -- the row of a path in a world is made, and so much was spent on it
 pub record IsMade (world : World) (path : List ℕ) (made : MadeRow) : Type 0 where
   pub at : string_bytes made.path ≡ path
-  pub row : IsRightRow world path (row_seen made.row)
+  pub row : IsRightRow world path (kept_row_seen made.row)
   pub spent : SpendsOnPath world path made.spent
 
 -- the evaluation of a path's makefile is under way in a world, or at its end
 pub record IsPathAsk (world : World) (path : List ℕ) (ask : PathAsk) : Type 0 where
   pub at : string_bytes ask.found.path ≡ path
   pub found : IsFoundAt world ask.found
-  pub come : HasComeTo (files_in world) (key_for world.1 ask.found.makefile (flavors_of ask.found.named)) ask.ask
+  pub come : HasComeTo (files_in world) (key_for world.1 ask.found.makefile (flavors_named ask.found.named)) ask.ask
 
 -- what was spent on the row of a path so far
 abbrev pub spent_on_row : PathTurned → Spent

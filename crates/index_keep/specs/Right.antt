@@ -1,19 +1,24 @@
 -- When the rows of an index are right.
-use Rattle.std.specs.Prelude.{◌≡◌, ◌⊎◌, ◌&&◌, ℕ, if◌then◌else◌, Bool, true, false, List, map, Option, Some, None, is_some}
+use Rattle.std.specs.Prelude.{◌≡◌, ◌⊎◌, ◌&&◌, ℕ, if◌then◌else◌, Bool, true, false, List, map, Option, Some, None, is_some, Result}
 use Rattle.std.specs.FinMap.{get}
+use Rattle.std.specs.Result.{result_err}
 use Rattle.std.specs.Str.{bytes_eq}
 use Rattle.mk_paths.specs.World.{World, FileMap, files_in}
-use Rattle.mk_paths.specs.FilesView.{Question, FilesView, failed}
-use Rattle.mk_paths.specs.declared.asking.FilesFault.{FilesFault}
-use Rattle.mk_eval.specs.Sharing.{Agrees}
+use Rattle.mk_paths.specs.FilesView.{Question, FilesView, failed, view_world}
+use Rattle.mk_paths.specs.declared.files.FilesFault.{FilesFault}
+use Rattle.mk_paths.specs.declared.files.Names as names
+use Rattle.mk_paths.specs.declared.search_path.Settings.{Settings}
+use Rattle.mk_eval.specs.Agreement.{Agrees}
 use Rattle.ports_index.specs.Efforts.{decided, has_makefile, is_there}
-use Rattle.ports_index.specs.Filling.{is_one_of}
+use Rattle.ports_index.specs.FilledRows.{is_one_of}
 use Rattle.ports_index.specs.Index.{needed_paths}
-use Rattle.ports_index.specs.Keeping.{Keeps}
+use Rattle.ports_index.specs.KeptFiles.{KeepsFiles}
 use Rattle.ports_index.specs.PathOutcomes.{Finding, PathOutcome, finding_at}
 use Rattle.ports_index.specs.PathQuestions.{questions_at}
-use Rattle.ports_index.specs.Spending.{SpendsOnPath}
-use Rattle.ports_index.specs.declared.spending.Spent.{Spent}
+use Rattle.ports_index.specs.Spent.{SpendsOnPath}
+use Rattle.ports_index.specs.declared.spent.Spent.{Spent}
+use Rattle.read_trace.specs.Recorder.{view_of}
+use Rattle.read_trace.specs.declared.recorder.Recorder.{Recorder}
 use Rattle.row_text.specs.Rows.{RowValue}
 use Rattle.index_keep.specs.Shown.{ShownRow, ShownRows, fresh}
 
@@ -30,13 +35,13 @@ abbrev pub right_row : World → List ℕ → RowValue
 right_row world path = row_with (finding_at world path) (questions_at world path)
 
 -- The row says what was found, and what was asked for that. Each question has the answer that the files give.
-pub record IsRowOf (files : FileMap) (found : Finding) (questions : List Question) (row : RowValue) : Type 0 where
+pub record IsRowOfFinding (files : FileMap) (found : Finding) (questions : List Question) (row : RowValue) : Type 0 where
   pub same : row ≡ row_with found questions
   pub answered : Agrees files questions
 
 -- the row is that of the path, and what was asked for it was answered as the world answers it
 abbrev pub IsRightRow : World → List ℕ → RowValue → Type 0
-IsRightRow world path row = IsRowOf (files_in world) (finding_at world path) (questions_at world path) row
+IsRightRow world path row = IsRowOfFinding (files_in world) (finding_at world path) (questions_at world path) row
 
 -- each row that isn't stale is right, and is that of a makefile
 pub record AreKept (world : World) (rows : ShownRows) : Type 0 where
@@ -83,6 +88,15 @@ RenewsRow world old new spending = RenewsOneOf world (needed_paths world) old ne
 
 -- What work leaves of files. Their map stays. If the work failed, it may be that they failed, once.
 abbrev pub LeavesFiles : Option FilesFault → FilesView → FilesView → Type 0
-LeavesFiles None old new = Keeps None old new
+LeavesFiles None old new = KeepsFiles None old new
 LeavesFiles (Some fault) old new =
     (new.files ≡ old.files) × ((new.failures ≡ old.failures) ⊎ (new.failures ≡ (failed old).failures))
+
+-- the world of the files that a recorder asks, under these settings
+abbrev pub asked_world : {F : Type 0} {asked : names.Ghosts F} → (F → FilesView) → Recorder F asked → Settings → World
+asked_world view files settings = view_world (view_of view files) settings
+
+-- what work leaves of the files that a recorder asks, by how the work ended
+abbrev pub LeavesAskedFiles : {F A : Type 0} {asked : names.Ghosts F}
+    → (F → FilesView) → Result A FilesFault → Recorder F asked → Recorder F asked → Type 0
+LeavesAskedFiles view result old new = LeavesFiles (result_err result) (view_of view old) (view_of view new)

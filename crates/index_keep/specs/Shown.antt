@@ -1,5 +1,8 @@
 -- The rows of an index as they are shown: each with whether it is stale.
 use Rattle.std.specs.Prelude.{◌≡◌, ℕ, ◌||◌, if◌then◌else◌, Bool, true, false, List, Option, Some, None, option_map, option_and_then}
+use Rattle.std.specs.Prelude.{String}
+use Rattle.std.specs.BTreeSet.{BTreeSet, contains_text}
+use Rattle.std.specs.Global.{Global}
 use Rattle.std.specs.List.{list_any}
 use Rattle.std.specs.Str.{bytes_eq}
 use Rattle.ports_index.specs.PathOutcomes.{PathOutcome}
@@ -36,9 +39,21 @@ shown test entries path = option_and_then (show_stored test) (entries path)
 abbrev pub no_name : List ℕ → Bool
 no_name name = false
 
+-- the rows of a store as they are shown, if no name has changed since
+abbrev pub shown_in : {R : Type 0} → (R → Entries) → R → ShownRows
+shown_in entries rows = shown no_name (entries rows)
+
+-- the rows of a store as they are shown after these names have changed
+abbrev pub shown_after : {R : Type 0} → (R → Entries) → BTreeSet (String Global) → R → ShownRows
+shown_after entries changed rows = shown (contains_text changed) (entries rows)
+
 -- the same rows are shown
 abbrev pub ShowsSame : ShownRows → ShownRows → Type 0
 ShowsSame old new = (path : List ℕ) → new path ≡ old path
+
+-- in a store, the rows are marked that asked for these names; so the same rows are shown once the names are forgotten
+abbrev pub MarksAsking : {R : Type 0} → (R → Entries) → BTreeSet (String Global) → R → R → Type 0
+MarksAsking entries changed old new = ShowsSame (shown_after entries changed old) (shown_in entries new)
 
 -- what a row says of its path, unless it is stale
 abbrev pub fresh_outcome : ShownRow → Option PathOutcome

@@ -1,8 +1,8 @@
 -- What finds out which rows stay at the end of a walk.
 use Rattle.std.specs.Prelude.{ℕ, List, map, string_bytes}
-use Rattle.ports_index.specs.Finding.{FindsPaths, IsFinderOf}
-use Rattle.index_keep.specs.declared.ending.StayingRows.{StayingRows}
-use Rattle.index_keep.specs.declared.walking.LastStage.{LastStage}
+use Rattle.ports_index.specs.Finders.{FindsPaths, IsFinderOf}
+use Rattle.index_keep.specs.declared.staying_rows.StayingRows.{StayingRows}
+use Rattle.index_keep.specs.declared.walk.LastStage.{LastStage}
 
 -- it finds the listed paths of a last stage, these paths beside them, and the rows that the stage knows
 pub record FindsStaying (last : LastStage) (paths : List (List ℕ)) (finder : StayingRows) : Type 0 where

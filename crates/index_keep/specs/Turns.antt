@@ -1,23 +1,23 @@
 -- What one turn of a refresh does.
 use Rattle.std.specs.Prelude.{◌≡◌, ◌≤◌, ℕ, ◌+◌, ◌-◌, ◌*◌, min, true, is_some, List, []}
 use Rattle.std.specs.List.{sum_by}
-use Rattle.mk_base.specs.declared.metering.TheConstants.{UNITS}
+use Rattle.mk_base.specs.declared.budget.TheConstants.{UNITS}
 use Rattle.turn_amounts.specs.declared.TheConstants.{MOST_CHECKS}
 use Rattle.mk_paths.specs.World.{World}
 use Rattle.ports_index.specs.Efforts.{cost_over, decided, evaluations_over, lacking}
-use Rattle.ports_index.specs.Filling.{is_one_of}
+use Rattle.ports_index.specs.FilledRows.{is_one_of}
 use Rattle.ports_index.specs.Index.{needed_paths}
 use Rattle.ports_index.specs.Pairs.{pair_at}
 use Rattle.ports_index.specs.PathOutcomes.{cost_at}
-use Rattle.ports_index.specs.Spending.{ChecksFew, no_spending}
-use Rattle.ports_index.specs.declared.spending.Spent.{Spent}
+use Rattle.ports_index.specs.Spent.{ChecksFew, no_spending}
+use Rattle.ports_index.specs.declared.spent.Spent.{Spent}
 use Rattle.index_keep.specs.declared.keeper.Refreshed.{Refreshed}
 use Rattle.index_keep.specs.declared.keeper.Refreshed.TheVariants.{Evaluated, More, Done}
-pub use Rattle.eval_ask.specs.Asking.{spent_in_all}
-use Rattle.eval_ask.specs.Asking.{EvaluatesInTime, IsShort, MakesInTime, total_of}
+pub use Rattle.eval_ask.specs.Ask.{spent_in_all}
+use Rattle.eval_ask.specs.Ask.{EvaluatesInTime, IsShort, MakesInTime, total_of}
 use Rattle.index_keep.specs.Shown.{ShownRows, ShowsSame, fresh}
 use Rattle.index_keep.specs.Right.{HaveFresh, AreCurrent, RenewsRow}
-use Rattle.index_keep.specs.Walking.{IsLacking}
+use Rattle.index_keep.specs.Walk.{IsLacking}
 
 -- How far a refresh is: the rows as they are shown, and what was spent so far on a path that is evaluated.
 pub record RefreshView : Type 0 where
@@ -64,7 +64,7 @@ pub record Evaluates (world : World) (units : ℕ) (old new : RefreshView) (spen
 
 -- A path that is left has no row yet. The turn has spent its units, of which each checked answer was one. Before the last
 -- thing that was done, it had spent fewer.
-pub record GoesOn (world : World) (units : ℕ) (old new : RefreshView) (spent : Spent) : Type 0 where
+pub record ContinuesRefresh (world : World) (units : ℕ) (old new : RefreshView) (spent : Spent) : Type 0 where
   pub rows : ShowsSame old.rows new.rows
   pub path : List ℕ
   pub lacking : IsLacking world old.rows path
@@ -82,10 +82,10 @@ pub record EndsRefresh (world : World) (old new : RefreshView) : Type 0 where
   pub nothing_left : new.begun ≡ no_spending
 
 -- what a turn does that is given some units
-abbrev pub TakesTurn : World → ℕ → RefreshView → RefreshView → Refreshed → Type 0
-TakesTurn world units old new (Evaluated spent) = Evaluates world units old new spent
-TakesTurn world units old new (More spent) = GoesOn world units old new spent
-TakesTurn world units old new Done = EndsRefresh world old new
+abbrev pub IsRefreshTurn : World → ℕ → RefreshView → RefreshView → Refreshed → Type 0
+IsRefreshTurn world units old new (Evaluated spent) = Evaluates world units old new spent
+IsRefreshTurn world units old new (More spent) = ContinuesRefresh world units old new spent
+IsRefreshTurn world units old new Done = EndsRefresh world old new
 
 -- what was spent in a turn
 abbrev pub spent_by : Refreshed → Spent
@@ -135,5 +135,5 @@ pub record RefreshingPays : Type 0 where
   -- rows that are those of the index leave nothing to be done
   pub ends : (world : World) (rows : ShownRows) → AreCurrent world rows → paths_left world rows ≡ []
   -- what a turn takes off the units that are left is spent in it, unless evaluations were kept
-  pub pays : (world : World) (units : ℕ) (old new : RefreshView) (turned : Refreshed) → TakesTurn world units old new turned
+  pub pays : (world : World) (units : ℕ) (old new : RefreshView) (turned : Refreshed) → IsRefreshTurn world units old new turned
       → PaysAll world old new (spent_by turned)

@@ -1,13 +1,8 @@
 //! The paths beside the listed ones on which the index depends.
-ghost use Rattle.std.specs.Prelude.{◌≡◌, ◌&&◌, ◌||◌, ℕ, List, map, string_bytes, IfOk, OnOk};
-ghost use Rattle.std.specs.Result.{result_err};
-ghost use Rattle.mk_paths.specs.FilesView.{world_of};
-ghost use Rattle.ports_index.specs.Filling.{is_one_of};
-ghost use Rattle.read_trace.specs.Recording.{view_of};
-ghost use Rattle.index_keep.specs.Right.{LeavesFiles};
-ghost use Rattle.index_keep.specs.Beside.{AreBeside, is_there_at};
+ghost use Rattle.index_keep.specs.Right.{LeavesAskedFiles};
+ghost use Rattle.index_keep.specs.WalkFacts.{AddsThere, FindsBeside, TellsThere};
 
-use crate::evaluating::FoundPath;
+use crate::path_ask::FoundPath;
 use mk_files::Files;
 use mk_paths::{FilesFault, Settings};
 use ports_index::{MemoryRows, flavored_targets};
@@ -25,9 +20,8 @@ pub(crate) fn paths_beside<F: Files + Drop>(
     listed: &[String],
     known: &MemoryRows,
 ) -> Result<Vec<String>, FilesFault>
-    ensures beside { IfOk result (λ beside. AreBeside (world_of (view_of F.view files.old) settings.now) known.now
-        (map string_bytes listed.now) (map string_bytes beside.items)) }
-    ensures leaves { LeavesFiles (result_err result) (view_of F.view files.old) (view_of F.view files.new) }
+    ensures beside { FindsBeside F.view files.old settings.now known.now listed.now result }
+    ensures leaves { LeavesAskedFiles F.view result files.old files.new }
 {
     let mut beside = Vec::new(alloc);
     let mut finder = known.finder();
@@ -48,10 +42,8 @@ fn add_there<F: Files + Drop>(
     named: Vec<String>,
     beside: &mut Vec<String>,
 ) -> Result<(), FilesFault>
-    ensures adds { OnOk result ((path : List ℕ) → is_one_of path (map string_bytes beside.new.items)
-        ≡ (is_one_of path (map string_bytes beside.old.items) || (is_one_of path (map string_bytes named.items)
-        && is_there_at (world_of (view_of F.view files.old) settings.now) known.now path))) }
-    ensures leaves { LeavesFiles (result_err result) (view_of F.view files.old) (view_of F.view files.new) }
+    ensures adds { AddsThere F.view files.old settings.now known.now named beside.old beside.new result }
+    ensures leaves { LeavesAskedFiles F.view result files.old files.new }
 {
     for path in named {
         if is_there(alloc, files, settings, known, path.as_str())? {
@@ -69,9 +61,8 @@ fn is_there<F: Files + Drop>(
     known: &MemoryRows,
     path: &str,
 ) -> Result<bool, FilesFault>
-    ensures there { IfOk result (λ there. there
-        ≡ is_there_at (world_of (view_of F.view files.old) settings.now) known.now path.now) }
-    ensures leaves { LeavesFiles (result_err result) (view_of F.view files.old) (view_of F.view files.new) }
+    ensures there { TellsThere F.view files.old settings.now known.now path.now result }
+    ensures leaves { LeavesAskedFiles F.view result files.old files.new }
 {
     if known.get(path).is_some() {
         return Ok(true);

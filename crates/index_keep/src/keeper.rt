@@ -1,22 +1,21 @@
 //! The keeper of one tenant's index.
-ghost use Rattle.std.specs.Prelude.{◌≡◌, ◌||◌, ℕ, List, option_map, string_bytes};
-ghost use Rattle.std.specs.Prelude.{OnOk, OnErr};
-ghost use Rattle.std.specs.Str.{bytes_eq};
+ghost use Rattle.std.specs.Prelude.{◌≡◌, ℕ, List, OnOk, OnErr};
 ghost use Rattle.mk_paths.specs.World.{World};
 ghost use Rattle.ports_index.specs.Known.{IsIndexOf};
-ghost use Rattle.ports_index.specs.Spending.{no_spending};
-ghost use Rattle.index_store.specs.Entries.{SameProfiles};
+ghost use Rattle.ports_index.specs.Spent.{no_spending};
+ghost use Rattle.index_store.specs.Entries.{KeepsProfiles};
 ghost use Rattle.index_keep.specs.Profiles.{profiles_of};
-ghost use Rattle.index_keep.specs.Shown.{ShowsSame, made_stale, stale_if_asked};
-ghost use Rattle.index_keep.specs.Right.{DifferAt};
-ghost use Rattle.index_keep.specs.Keeping.{rows_of, refresh_of, begun_in, changed_in, size_at_hand, HasEdges, IsKept, IsDone};
-ghost use Rattle.index_keep.specs.Keeping.{DropsTo, HasForgotten, Halts, Stops, TellsPresence, last_in};
-ghost use Rattle.index_keep.specs.Keeping as keeping;
+ghost use Rattle.index_keep.specs.Keeper.{begun_in, last_in, refresh_of, size_at_hand, Halts};
+ghost use Rattle.index_keep.specs.Keeper.{HasEdges, HasForgotten, IsDone, IsKept, IsKeptAcross};
+ghost use Rattle.index_keep.specs.Keeper.{KeepsShown, MakesAllStale, MakesAskingStale, StaysKept};
+ghost use Rattle.index_keep.specs.Keeper.{StaysKeptIfTold, Stops};
+ghost use Rattle.index_keep.specs.TurnFacts.{AddsChanged, DropsForChange};
+ghost use Rattle.index_keep.specs.Keeper as the_keeper;
 
-use crate::beginning::begin;
-use crate::evaluating::PathAsk;
 use crate::last_index::HeldIndex;
-use crate::walking::Walk;
+use crate::path_ask::PathAsk;
+use crate::refresh_start::begin;
+use crate::walk::Walk;
 use index_store::PathRows;
 use mk_paths::{FilesFault, Name};
 use ports_index::{
@@ -87,15 +86,12 @@ impl<R: PathRows + Drop> Keeper<R> {
         name: &Name,
         is_there: bool,
     ) -> Result<(), FilesFault>
-        ensures rows { OnOk result ((path : List ℕ) → rows_of R.entries self.new path
-            ≡ option_map (stale_if_asked name.now) (rows_of R.entries self.old path)) }
+        ensures rows { OnOk result (MakesAskingStale R.entries name.now self.old self.new) }
         ensures begun { OnOk result (begun_in self.new.progress ≡ no_spending) }
-        ensures err { OnErr result (ShowsSame (rows_of R.entries self.old) (rows_of R.entries self.new)) }
-        ensures kept { (world : World) → TellsPresence world name.now is_there
-            → IsKept R.entries world self.old → IsKept R.entries world self.new }
-        ensures other { OnOk result ((world other : World) → DifferAt name.now world other
-            → TellsPresence world name.now is_there → IsKept R.entries world self.old → IsKept R.entries other self.new) }
-        ensures profiles { SameProfiles (profiles_of R.profiles self.old) (profiles_of R.profiles self.new) }
+        ensures err { OnErr result (KeepsShown R.entries self.old self.new) }
+        ensures kept { StaysKeptIfTold R.entries name.now is_there self.old self.new }
+        ensures other { OnOk result (IsKeptAcross R.entries name.now is_there self.old self.new) }
+        ensures profiles { KeepsProfiles (profiles_of R.profiles) self.old self.new }
     {
         path_is_the_same_where_answered();
         known_rows_are_enough();
@@ -112,13 +108,12 @@ impl<R: PathRows + Drop> Keeper<R> {
     ///
     /// It fails if the rows fail. Then no row changes.
     pub fn note_path(&mut self, alloc: Global) -> Result<(), FilesFault>
-        ensures rows { OnOk result ((path : List ℕ) → rows_of R.entries self.new path
-            ≡ option_map made_stale (rows_of R.entries self.old path)) }
+        ensures rows { OnOk result (MakesAllStale R.entries self.old self.new) }
         ensures begun { OnOk result (begun_in self.new.progress ≡ no_spending) }
-        ensures err { OnErr result (ShowsSame (rows_of R.entries self.old) (rows_of R.entries self.new)) }
-        ensures kept { (world : World) → IsKept R.entries world self.old → IsKept R.entries world self.new }
+        ensures err { OnErr result (KeepsShown R.entries self.old self.new) }
+        ensures kept { StaysKept R.entries self.old self.new }
         ensures other { OnOk result ((world : World) → IsKept R.entries world self.new) }
-        ensures profiles { SameProfiles (profiles_of R.profiles self.old) (profiles_of R.profiles self.new) }
+        ensures profiles { KeepsProfiles (profiles_of R.profiles) self.old self.new }
     {
         self.rows.mark_all()?;
         self.progress = Progress::nothing(alloc);
@@ -142,8 +137,8 @@ impl<R: PathRows + Drop> Keeper<R> {
         ensures edges { OnOk result (HasEdges self.new.progress) }
         ensures refresh { refresh_of R.entries self.new ≡ refresh_of R.entries self.old }
         ensures done { IsDone self.old → IsDone self.new }
-        ensures kept { (world : World) → IsKept R.entries world self.old → IsKept R.entries world self.new }
-        ensures profiles { SameProfiles (profiles_of R.profiles self.old) (profiles_of R.profiles self.new) }
+        ensures kept { StaysKept R.entries self.old self.new }
+        ensures profiles { KeepsProfiles (profiles_of R.profiles) self.old self.new }
     {
         match &mut self.progress {
             Progress::AtHand(index) => index.keep_edges(alloc),
@@ -170,11 +165,11 @@ impl<R: PathRows + Drop> Keeper<R> {
     /// Drops from memory what the rows say, unless a refresh is under way. Nothing else changes. The next turn of a
     /// refresh reads the rows again.
     pub fn put_away(&mut self, alloc: Global)
-        ensures rows { ShowsSame (rows_of R.entries self.old) (rows_of R.entries self.new) }
+        ensures rows { KeepsShown R.entries self.old self.new }
         ensures begun { begun_in self.new.progress ≡ begun_in self.old.progress }
         ensures away { IsDone self.new → ⊥ }
-        ensures kept { (world : World) → IsKept R.entries world self.old → IsKept R.entries world self.new }
-        ensures profiles { SameProfiles (profiles_of R.profiles self.old) (profiles_of R.profiles self.new) }
+        ensures kept { StaysKept R.entries self.old self.new }
+        ensures profiles { KeepsProfiles (profiles_of R.profiles) self.old self.new }
     {
         match mem::replace(&mut self.progress, Progress::nothing(alloc)) {
             Progress::AtHand(index) => self.progress = Progress::Current(index.paths),
@@ -186,10 +181,10 @@ impl<R: PathRows + Drop> Keeper<R> {
     /// Limits the steps of each later statement of the rows; with `None` they are no longer limited. No row
     /// changes.
     pub fn limit_steps(&mut self, limit: Option<u64>)
-        ensures rows { ShowsSame (rows_of R.entries self.old) (rows_of R.entries self.new) }
+        ensures rows { KeepsShown R.entries self.old self.new }
         ensures begun { begun_in self.new.progress ≡ begun_in self.old.progress }
-        ensures kept { (world : World) → IsKept R.entries world self.old → IsKept R.entries world self.new }
-        ensures profiles { SameProfiles (profiles_of R.profiles self.old) (profiles_of R.profiles self.new) }
+        ensures kept { StaysKept R.entries self.old self.new }
+        ensures profiles { KeepsProfiles (profiles_of R.profiles) self.old self.new }
     {
         self.rows.limit_steps(limit);
     }
@@ -197,10 +192,10 @@ impl<R: PathRows + Drop> Keeper<R> {
     /// Stops a refresh that is under way: its walk and an evaluation that was begun are dropped. All rows stay, and
     /// names that have changed stay noted.
     pub fn stop(&mut self, alloc: Global)
-        ensures rows { ShowsSame (rows_of R.entries self.old) (rows_of R.entries self.new) }
+        ensures rows { KeepsShown R.entries self.old self.new }
         ensures begun { begun_in self.new.progress ≡ no_spending }
-        ensures kept { (world : World) → IsKept R.entries world self.old → IsKept R.entries world self.new }
-        ensures profiles { SameProfiles (profiles_of R.profiles self.old) (profiles_of R.profiles self.new) }
+        ensures kept { StaysKept R.entries self.old self.new }
+        ensures profiles { KeepsProfiles (profiles_of R.profiles) self.old self.new }
     {
         self.progress.halt(alloc);
     }
@@ -218,9 +213,9 @@ impl<R: PathRows + Drop> Keeper<R> {
 
     // Marks the rows that asked for names that have changed, and forgets these names.
     fn write_marks(&mut self, alloc: Global) -> Result<(), FilesFault>
-        ensures rows { ShowsSame (rows_of R.entries self.old) (rows_of R.entries self.new) }
+        ensures rows { KeepsShown R.entries self.old self.new }
         ensures progress { Stops self.old.progress self.new.progress }
-        ensures profiles { SameProfiles (profiles_of R.profiles self.old) (profiles_of R.profiles self.new) }
+        ensures profiles { KeepsProfiles (profiles_of R.profiles) self.old self.new }
     {
         if let Progress::Changed(names, _) = &self.progress {
             let _known = begin(alloc, &mut self.rows, names)?;
@@ -251,9 +246,8 @@ impl Progress {
     // The file of this name has changed too, and may have been there before. A refresh that is under way is dropped. An
     // index at hand stays in memory. If memory runs out, nothing changes.
     fn add_change(&mut self, alloc: Global, name: String, is_there: bool) -> Result<(), AllocError>
-        ensures changed { OnOk result ((other : List ℕ) → changed_in self.new other
-            ≡ (bytes_eq (string_bytes name) other || changed_in self.old other)) }
-        ensures dropped { OnOk result (DropsTo (keeping.stays_there (string_bytes name) is_there) self.old self.new) }
+        ensures changed { OnOk result (AddsChanged name self.old self.new) }
+        ensures dropped { OnOk result (DropsForChange name is_there self.old self.new) }
         ensures err { OnErr result (self.new ≡ self.old) }
     {
         let stays = stays_there(name.as_str(), is_there);
@@ -294,7 +288,7 @@ impl Progress {
 
 // Whether a file is there before a change, or is no makefile.
 fn stays_there(name: &str, is_there: bool) -> bool
-    ensures { result ≡ keeping.stays_there name.now is_there }
+    ensures { result ≡ the_keeper.stays_there name.now is_there }
 {
     is_there || !is_makefile(name)
 }

@@ -1,7 +1,8 @@
 //! The index before files changed, whose lists are kept while no row names other paths.
-ghost use Rattle.std.specs.Prelude.{◌≡◌, true, Some, IfSome};
+ghost use Rattle.std.specs.Prelude.{◌≡◌, true, IfSome};
 ghost use Rattle.ports_index.specs.Seen.{row_seen};
 ghost use Rattle.index_keep.specs.Last.{NamesAsBefore};
+ghost use Rattle.index_keep.specs.StartFacts.{KeepsIfAlike, KeepsListsIfAlike};
 
 use ports_index::{KnownIndex, MemoryRows, Row, name_alike};
 
@@ -41,7 +42,7 @@ impl LastIndex {
 
 /// The index of before, if the outdated row of this path names the same paths as this row.
 pub(crate) fn if_alike(last: Option<LastIndex>, path: &str, row: &Row) -> Option<LastIndex>
-    ensures { IfSome result (λ kept. (last ≡ Some kept) × NamesAsBefore path.now (row_seen row.now) kept) }
+    ensures { IfSome result (KeepsIfAlike last path.now row.now) }
 {
     let last = last?;
     if last.names_alike(path, row) {
@@ -53,7 +54,7 @@ pub(crate) fn if_alike(last: Option<LastIndex>, path: &str, row: &Row) -> Option
 
 /// Its lists, if the outdated row of this path names the same paths as this row.
 pub(crate) fn lists_if_alike(lists: Option<LastLists>, path: &str, row: &Row) -> Option<LastLists>
-    ensures { IfSome result (λ kept. (lists ≡ Some kept) × NamesAsBefore path.now (row_seen row.now) kept.last) }
+    ensures { IfSome result (KeepsListsIfAlike lists path.now row.now) }
 {
     let lists = lists?;
     if lists.last.names_alike(path, row) {

@@ -2,16 +2,16 @@
 //! makes the rows right again, one path at a time. What the index is is read from them.
 #![tactic(auto)]
 
-mod beginning;
 mod beside;
-mod ending;
-mod evaluating;
 mod keeper;
 mod last_index;
 mod laws;
+mod path_ask;
+mod refresh_start;
 mod stage;
-mod turning;
-mod walking;
+mod staying_rows;
+mod turns;
+mod walk;
 
 pub use eval_ask::{Ask, AskTurned, Asked, asking_spends};
 pub use keeper::{Keeper, Refreshed};

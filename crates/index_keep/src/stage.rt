@@ -1,17 +1,10 @@
 //! A stage of a refresh: paths, one after another, until each has its row.
-ghost use Rattle.std.specs.Prelude.{◌≡◌, ◌&&◌, ℕ, List, is_none, map, string_bytes, IfOk, OnOk};
-ghost use Rattle.std.specs.Result.{result_err};
-ghost use Rattle.mk_paths.specs.FilesView.{world_of};
-ghost use Rattle.mk_paths.specs.World.{World};
-ghost use Rattle.ports_index.specs.Filling.{is_one_of};
-ghost use Rattle.ports_index.specs.Naming.{AreInOrder};
-ghost use Rattle.ports_index.specs.Seen.{entries_in};
-ghost use Rattle.ports_index.specs.Seen as seen;
-ghost use Rattle.read_trace.specs.Recording.{view_of};
-ghost use Rattle.index_keep.specs.Right.{LeavesFiles};
-ghost use Rattle.index_keep.specs.Walking as walking;
+ghost use Rattle.std.specs.Prelude.{◌≡◌, IfOk, OnOk};
+ghost use Rattle.index_keep.specs.Right.{LeavesAskedFiles};
+ghost use Rattle.index_keep.specs.WalkFacts.{AreLacking, FindsAmongBoth, FindsLacking, LearnsRow};
+ghost use Rattle.index_keep.specs.WalkFacts.{PassesOn};
 
-use crate::evaluating::FoundPath;
+use crate::path_ask::FoundPath;
 use mk_files::Files;
 use mk_paths::{FilesFault, Settings};
 use ports_index::{KnownRow, MemoryRows, is_found_in};
@@ -46,9 +39,8 @@ impl Stage {
         files: &mut Recorder<F>,
         settings: &Settings,
     ) -> Result<Option<FoundPath>, FilesFault>
-        ensures passes { walking.HasPassed (world_of (view_of F.view files.old) settings.now) self.old self.old.place
-            → IfOk result (walking.PassesStage (world_of (view_of F.view files.old) settings.now) self.old self.new) }
-        ensures leaves { LeavesFiles (result_err result) (view_of F.view files.old) (view_of F.view files.new) }
+        ensures passes { PassesOn F.view files.old settings.now self.old self.new result }
+        ensures leaves { LeavesAskedFiles F.view result files.old files.new }
     {
         match self.lacking(alloc, files, settings)? {
             Some((place, found)) => {
@@ -66,9 +58,8 @@ impl Stage {
         files: &mut Recorder<F>,
         settings: &Settings,
     ) -> Result<Option<(usize, FoundPath)>, FilesFault>
-        ensures comes { walking.HasPassed (world_of (view_of F.view files.old) settings.now) self.now self.now.place
-            → IfOk result (walking.FindsNext (world_of (view_of F.view files.old) settings.now) self.now) }
-        ensures leaves { LeavesFiles (result_err result) (view_of F.view files.old) (view_of F.view files.new) }
+        ensures comes { FindsLacking F.view files.old settings.now self.now result }
+        ensures leaves { LeavesAskedFiles F.view result files.old files.new }
     {
         for place in self.place..self.paths.len() {
             let path = self.paths[place].as_str();
@@ -84,7 +75,7 @@ impl Stage {
 
     /// Knows of one more fresh row from now on. If memory runs out, nothing changes.
     pub(crate) fn know(&mut self, path: String, row: KnownRow) -> Result<(), AllocError>
-        ensures { OnOk result (walking.KnowsRow (string_bytes path) (seen.known_seen row) self.old self.new) }
+        ensures { OnOk result (LearnsRow path row self.old self.new) }
     {
         self.known.put(path, row)
     }
@@ -96,8 +87,7 @@ pub(crate) fn lacking_among(
     paths: &[String],
     known: &MemoryRows,
 ) -> Result<Vec<String>, AllocError>
-    ensures { IfOk result (λ lacking. (path : List ℕ) → is_one_of path (map string_bytes lacking.items)
-        ≡ (is_one_of path (map string_bytes paths.now) && is_none (entries_in known.now path))) }
+    ensures { IfOk result (AreLacking paths.now known.now) }
 {
     let mut lacking = Vec::new(alloc);
     let mut finder = known.finder();
@@ -115,9 +105,7 @@ pub(crate) fn found_among(
     paths: &[String],
     others: &[String],
 ) -> Result<Vec<String>, AllocError>
-    ensures { AreInOrder (map string_bytes others.now)
-        → IfOk result (λ found. (path : List ℕ) → is_one_of path (map string_bytes found.items)
-        ≡ (is_one_of path (map string_bytes paths.now) && is_one_of path (map string_bytes others.now))) }
+    ensures { FindsAmongBoth paths.now others.now result }
 {
     let mut found = Vec::new(alloc);
     for path in paths {

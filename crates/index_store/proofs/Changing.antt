@@ -9,12 +9,12 @@ use Rattle.sqlite_value.specs.Order.{Row}
 use Rattle.sqlite_sql.specs.Term.{lit, col}
 use Rattle.sqlite.specs.State.{State, ExecutesInside}
 use Rattle.sqlite_rules.specs.Cast.{cast_row}
-use Rattle.table_facts.specs.Filled.{AreFilled, row_of, entries_in, changed_at}
+use Rattle.table_facts.specs.Filled.{AreFilled, entry_row, entries_of_rows, changed_at}
 use Rattle.table_facts.proofs.Keyed.{Makes, cast_null, cast_integer, row_found, inserts_entry, updates_entries, updates_at, deletes_entries}
 use Rattle.table_facts.proofs.Statements.{seen}
 use Rattle.index_store.specs.declared.port_table.Part.{Part}
 use Rattle.index_store.specs.declared.port_table.Part.TheVariants.{Earlier, Current}
-use Rattle.index_store.specs.PortTable.{Entry, Rows, ByPath, IsFormed, HoldsInside, layout, rows_at, with_rows, tree_of, port_schema}
+use Rattle.index_store.specs.PortTable.{Entry, Rows, ByPath, IsFormed, HoldsInside, layout, rows_at, with_rows, tree_number, port_schema}
 use Rattle.index_store.specs.PortTable.{leaving_mark}
 use Rattle.index_store.specs.PortTable.{stale_mark}
 use Rattle.index_store.specs.PortTable.{fresh_entry, replaced_at, with_row, marked_at, with_mark, all_marked, staying_of}
@@ -41,7 +41,7 @@ abbrev Made : Part → State → State → ByPath → Type 0
 Made part old new rows = HoldsInside new (with_rows part rows (rows_at old.now.trees))
 
 port_change : (part : Part) (old new : State) (rows : ByPath) → IsFormed old.now → new.in_transaction ≡ true
-    → Makes (layout part) port_schema old new (tree_of part) rows → Made part old new rows
+    → Makes (layout part) port_schema old new (tree_number part) rows → Made part old new rows
 port_change Earlier old new rows formed inside h =
     let others : new.now.trees 2 ≡ old.now.trees 2 = h.others.1.0 (λ e. absurd cc) in
     let filled = subst (AreFilled (layout Current)) (sym others) (formed.rows Current) in
@@ -50,10 +50,10 @@ port_change Earlier old new rows formed inside h =
       formed = record {
         schema = h.schema_is;
         rows =
-            each_part (λ part. AreFilled (layout part) (new.now.trees (tree_of part))) h.filled filled;
+            each_part (λ part. AreFilled (layout part) (new.now.trees (tree_number part))) h.filled filled;
       };
       are =
-          by_part (rows_at new.now.trees) (with_rows Earlier rows (rows_at old.now.trees)) h.are (ap (entries_in (layout Current)) others);
+          by_part (rows_at new.now.trees) (with_rows Earlier rows (rows_at old.now.trees)) h.are (ap (entries_of_rows (layout Current)) others);
     }
 port_change Current old new rows formed inside h =
     let others : new.now.trees 0 ≡ old.now.trees 0 = h.others.0 (λ e. absurd cc) in
@@ -63,24 +63,24 @@ port_change Current old new rows formed inside h =
       formed = record {
         schema = h.schema_is;
         rows =
-            each_part (λ part. AreFilled (layout part) (new.now.trees (tree_of part))) filled h.filled;
+            each_part (λ part. AreFilled (layout part) (new.now.trees (tree_number part))) filled h.filled;
       };
       are =
-          by_part (rows_at new.now.trees) (with_rows Current rows (rows_at old.now.trees)) (ap (entries_in (layout Earlier)) others) h.are;
+          by_part (rows_at new.now.trees) (with_rows Current rows (rows_at old.now.trees)) (ap (entries_of_rows (layout Earlier)) others) h.are;
     }
 
 -- ---- the marks of rows
 
 mark_cells : (part : Part) (mark : ℕ) (params : Row) (id : ℤ) (e : Entry)
     → cast_row (table_of part) (Int id ∷ Text e.path ∷ Int (pos mark) ∷ Blob e.text ∷ seen (last_columns part) params
-    (row_of (layout part) id e))
-    ≡ row_of (layout part) id (with_mark mark e)
+    (entry_row (layout part) id e))
+    ≡ entry_row (layout part) id (with_mark mark e)
 mark_cells Earlier mark params id e = λ i. cast_integer id i ∷ Text e.path ∷ cast_integer (pos mark) i ∷ Blob e.text ∷ []
 mark_cells Current mark params id e =
     λ i. cast_integer id i ∷ Text e.path ∷ cast_integer (pos mark) i ∷ Blob e.text ∷ cast_integer (pos (unwrap_or e.profile 0)) i ∷ []
 
 mark_back : (part : Part) (mark : ℕ) (id : ℤ) (r : Row)
-    → (layout part).entry (row_of (layout part) id (with_mark mark ((layout part).entry r))) ≡ with_mark mark ((layout part).entry r)
+    → (layout part).entry (entry_row (layout part) id (with_mark mark ((layout part).entry r))) ≡ with_mark mark ((layout part).entry r)
 mark_back Earlier mark id r = refl
 mark_back Current mark id r = refl
 

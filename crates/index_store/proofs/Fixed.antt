@@ -19,7 +19,7 @@ use Rattle.table_facts.proofs.Statements.{IsTableAt, Says, Queries, those_of}
 use Rattle.table_facts.proofs.Tests.{same_number, alone}
 use Rattle.index_store.specs.declared.port_table.Part.{Part}
 use Rattle.index_store.specs.declared.port_table.Part.TheVariants.{Earlier, Current}
-use Rattle.index_store.specs.PortTable.{IsFormed, earlier_schema, port_schema, earlier_table, current_table, tree_of, layout, leaving_mark}
+use Rattle.index_store.specs.PortTable.{IsFormed, earlier_schema, port_schema, earlier_table, current_table, tree_number, layout, leaving_mark}
 use Rattle.index_store.specs.PortTable.{create_earlier, create_current, insert_earlier, insert_current, update_current}
 use Rattle.index_store.specs.PortTable.{mark_row, mark_rows, delete_rows, select_rows}
 
@@ -31,7 +31,7 @@ columns_of Current = current_table
 
 -- a table as the schema has it
 abbrev pub table_of : Part → Table
-table_of part = record (columns_of part) { tree = tree_of part }
+table_of part = record (columns_of part) { tree = tree_number part }
 
 -- the place of a table among the tables
 abbrev pub place_of : Part → ℕ

@@ -3,16 +3,16 @@ use Rattle.std.proofs.Common.{◌≡◌, ℕ, Bool, false, [], Result, Ok, Err, 
 use Rattle.sqlite.specs.Effect.{Database}
 use Rattle.sqlite.specs.State.{State, Executes}
 use Rattle.sqlite.specs.declared.error.Error.{Error}
-use Rattle.table_facts.specs.Filled.{AreFilled, entries_in}
+use Rattle.table_facts.specs.Filled.{AreFilled, entries_of_rows}
 use Rattle.table_facts.specs.States.{IsSettled, Stays}
 use Rattle.table_facts.proofs.Creating.{creates}
 use Rattle.table_facts.proofs.Keyed.{none_filled}
 use Rattle.index_store.specs.declared.port_table.Part.TheVariants.{Earlier, Current}
-use Rattle.index_store.specs.declared.writing.Change.{Change}
+use Rattle.index_store.specs.declared.change.Change.{Change}
 use Rattle.index_store.specs.PortTable.{Rows, ByPath, AreSettled, AllowsFor, IsKeptWith, IsFormed, Holds, HoldsInside}
-use Rattle.index_store.specs.PortTable.{rows_at, entries_at, no_rows, all_of, layout, tree_of, earlier_schema, current_table}
+use Rattle.index_store.specs.PortTable.{rows_at, entries_at, no_rows, all_of, layout, tree_number, earlier_schema, current_table}
 use Rattle.index_store.specs.PortTable.{create_current}
-use Rattle.index_store.specs.Marking.{Changes, IsFree, changed_by, rows_after}
+use Rattle.index_store.specs.Marks.{Changes, IsAllowedChange, changed_by, rows_after}
 use Rattle.index_store.proofs.Answering.{all_found}
 use Rattle.index_store.proofs.Changing.{each_part, by_part}
 use Rattle.index_store.proofs.Fixed.{create_current_text}
@@ -27,8 +27,8 @@ creates_current old new auto has empty count h =
     let earlier : new.now.trees 0 ≡ [] = it.others.0 ∙ empty in
     let current : new.now.trees 2 ≡ [] = it.empty in
     let none : rows_at new.now.trees ≡ no_rows =
-    by_part _ _ (ap (entries_in (layout Earlier)) earlier) (ap (entries_in (layout Current)) current) in
-    let filled = each_part (λ part. AreFilled (layout part) (new.now.trees (tree_of part)))
+    by_part _ _ (ap (entries_of_rows (layout Earlier)) earlier) (ap (entries_of_rows (layout Current)) current) in
+    let filled = each_part (λ part. AreFilled (layout part) (new.now.trees (tree_number part)))
     (none_filled (layout Earlier) (new.now.trees 0) earlier) (none_filled (layout Current) (new.now.trees 2) current) in
     record {
       kept = record {
@@ -72,7 +72,7 @@ commit_holds (Ok a) mid new rows inside settled h =
 commit_holds (Err e) mid new rows inside settled h = tt
 
 module _ (has_earlier : Bool) (change : Change) (old new : State) (kept : IsKeptWith has_earlier old)
-    (free : IsFree has_earlier change (rows_at old.now.trees)) where
+    (free : IsAllowedChange has_earlier change (rows_at old.now.trees)) where
   abbrev after : Rows
   after = rows_after change (rows_at old.now.trees)
 

@@ -11,10 +11,10 @@ use Rattle.std.specs.Str.{bytes_eq}
 use Rattle.general_facts.specs.Lists.{list_any-map}
 use Rattle.text_parts.specs.Ordered.{by_bytes}
 use Rattle.index_store.specs.Entries.{Entries, StoredValue, is_one_of}
-use Rattle.index_store.specs.PortTable.{AreNoted}
+use Rattle.index_store.specs.PortTable.{AreNotedPaths}
 
 -- a path that isn't noted has no row
-pub not-noted : (paths : BTreeSet (String Global)) (entries : Entries) → AreNoted paths entries → (path : List ℕ)
+pub not-noted : (paths : BTreeSet (String Global)) (entries : Entries) → AreNotedPaths paths entries → (path : List ℕ)
     → contains_text paths path ≡ false → entries path ≡ None
 not-noted paths entries noted path not = by (entries path) refl
   where

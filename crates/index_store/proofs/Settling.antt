@@ -7,12 +7,12 @@ use Rattle.std.specs.Str.{bytes_eq}
 use Rattle.std.proofs.lemmas.Map.Entries.{option_filter}
 use Rattle.mk_text.specs.Profiles.{profile_number}
 use Rattle.index_store.specs.declared.port_table.Part.TheVariants.{Earlier, Current}
-use Rattle.index_store.specs.declared.writing.Change.{Change}
-use Rattle.index_store.specs.declared.writing.Change.TheVariants.{Put, PutEarlier, Mark, MarkAll, TakeOut}
+use Rattle.index_store.specs.declared.change.Change.{Change}
+use Rattle.index_store.specs.declared.change.Change.TheVariants.{Put, PutEarlier, Mark, MarkAll, TakeOut}
 use Rattle.index_store.specs.Entries.{is_one_of}
 use Rattle.index_store.specs.PortTable.{Entry, Rows, AreSettled, AllowsFor, is_staying, all_of, stale_mark, leaving_mark}
 use Rattle.index_store.specs.PortTable.{with_mark, fresh_entry, marked_among, all_marked, staying_of, without}
-use Rattle.index_store.specs.Marking.{IsFree, rows_after, changed_by}
+use Rattle.index_store.specs.Marks.{IsAllowedChange, rows_after, changed_by}
 use Rattle.index_store.proofs.Changing.{each_part}
 use Rattle.index_store.proofs.Composing.{leaving, none_among, none_marked}
 
@@ -114,7 +114,7 @@ module _ (rows : Rows) (settled : AreSettled rows) where
   after_all change other = (after_one change other).together
 
 -- where the release before may have no row, a change gives it none
-pub after_allowed : (has_earlier : Bool) (change : Change) (rows : Rows) → IsFree has_earlier change rows → AllowsFor has_earlier rows
+pub after_allowed : (has_earlier : Bool) (change : Change) (rows : Rows) → IsAllowedChange has_earlier change rows → AllowsFor has_earlier rows
     → AllowsFor has_earlier (rows_after change rows)
 after_allowed has_earlier (Put is_new path profile text) rows free allows off =
     ap (without path.now) (allows off) ∙ ap staying_of (none_marked leaving_mark path.now)

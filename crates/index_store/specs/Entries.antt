@@ -31,8 +31,8 @@ abbrev pub stored_seen : StoredRow → SeenRow
 stored_seen row = record { path = string_bytes row.path; stale = row.is_stale; text = row.text.items }
 
 -- the path of a row
-abbrev pub path_of : SeenRow → List ℕ
-path_of row = row.path
+abbrev pub row_path : SeenRow → List ℕ
+row_path row = row.path
 
 -- what a row stores for its path
 abbrev pub value_in : SeenRow → StoredValue
@@ -45,11 +45,11 @@ is_one_of path paths = list_any (λ one. bytes_eq one path) paths
 -- these rows, in any order, are what is stored: each is right, and each path that has a row has one of them
 pub record AreRowsOf (entries : Entries) (rows : List SeenRow) : Type 0 where
   pub each : All (λ row. entries row.path ≡ Some (value_in row)) rows
-  pub all : (path : List ℕ) → is_some (entries path) ≡ is_one_of path (map path_of rows)
+  pub all : (path : List ℕ) → is_some (entries path) ≡ is_one_of path (map row_path rows)
 
 -- these paths, in any order, are those that have a row
-abbrev pub ArePathsOf : Entries → List (List ℕ) → Type 0
-ArePathsOf entries paths = (path : List ℕ) → is_one_of path paths ≡ is_some (entries path)
+abbrev pub ArePathsWithRow : Entries → List (List ℕ) → Type 0
+ArePathsWithRow entries paths = (path : List ℕ) → is_one_of path paths ≡ is_some (entries path)
 
 -- these rows that are handed out, in any order, are what is stored
 abbrev pub AreStored : Entries → Vec StoredRow Global → Type 0
@@ -57,15 +57,15 @@ AreStored entries rows = AreRowsOf entries (map stored_seen rows.items)
 
 -- these texts, in any order, are the paths that have a row
 abbrev pub AreStoredPaths : Entries → Vec (String Global) Global → Type 0
-AreStoredPaths entries paths = ArePathsOf entries (map string_bytes paths.items)
+AreStoredPaths entries paths = ArePathsWithRow entries (map string_bytes paths.items)
 
 -- no path has a row
 abbrev pub HasNoRow : Entries → Type 0
 HasNoRow entries = (path : List ℕ) → entries path ≡ None
 
 -- a row that isn't stale
-abbrev pub fresh : List ℕ → StoredValue
-fresh text = record { stale = false; text = text }
+abbrev pub fresh_value : List ℕ → StoredValue
+fresh_value text = record { stale = false; text = text }
 
 -- a row once it is marked
 abbrev pub marked : StoredValue → StoredValue
@@ -77,15 +77,15 @@ SameRows old new = (path : List ℕ) → new path ≡ old path
 
 -- this path has this row now, which isn't stale, and each other path has what it had
 abbrev pub PutsRow : List ℕ → List ℕ → Entries → Entries → Type 0
-PutsRow path text old new = (other : List ℕ) → new other ≡ (if bytes_eq path other then Some (fresh text) else old other)
+PutsRow path text old new = (other : List ℕ) → new other ≡ (if bytes_eq path other then Some (fresh_value text) else old other)
 
 -- the rows of these paths are marked stale, and the others are as they were
-abbrev pub Marks : List (List ℕ) → Entries → Entries → Type 0
-Marks paths old new = (path : List ℕ) → new path ≡ (if is_one_of path paths then option_map marked (old path) else old path)
+abbrev pub MarksRowsOf : List (List ℕ) → Entries → Entries → Type 0
+MarksRowsOf paths old new = (path : List ℕ) → new path ≡ (if is_one_of path paths then option_map marked (old path) else old path)
 
 -- the rows of the paths in these texts are marked stale, and the others are as they were
 abbrev pub MarksStale : List (String Global) → Entries → Entries → Type 0
-MarksStale paths old new = Marks (map string_bytes paths) old new
+MarksStale paths old new = MarksRowsOf (map string_bytes paths) old new
 
 -- all rows are marked stale
 abbrev pub MarksAll : Entries → Entries → Type 0

@@ -1,3 +1,3 @@
 pub mod Entries
 pub mod PortTable
-pub mod Marking
+pub mod Marks

@@ -25,7 +25,7 @@ use Rattle.sqlite.specs.Effect.{Database}
 use Rattle.sqlite.specs.Held.{Held}
 use Rattle.sqlite.specs.State.{State}
 use Rattle.table_facts.specs.Tables.{filled, keyed, no_schema}
-use Rattle.table_facts.specs.Filled.{Layout, AreFilled, entries_in, changed_at, number_in, bytes_in}
+use Rattle.table_facts.specs.Filled.{Layout, AreFilled, entries_of_rows, changed_at, number_in, bytes_in}
 use Rattle.table_facts.specs.States.{IsSettled, state_of}
 use Rattle.index_store.specs.Entries.{StoredValue, SeenRow, Entries, Profiles, AreRowsOf, PutsRow, PutsProfile}
 use Rattle.index_store.specs.Entries.{is_one_of, stored_seen}
@@ -120,9 +120,9 @@ select_rows Current = codes "SELECT path, stale, row FROM port2"
 -- ---- what the rows mean
 
 -- the tree of a table
-abbrev pub tree_of : Part → ℕ
-tree_of Earlier = 0
-tree_of Current = 2
+abbrev pub tree_number : Part → ℕ
+tree_number Earlier = 0
+tree_number Current = 2
 
 -- the number of the profile in a row
 abbrev pub profile_cell : Part → Row → Option ℕ
@@ -162,7 +162,7 @@ abbrev pub Rows : Type 0
 Rows = Part → ByPath
 
 abbrev pub rows_at : Trees → Rows
-rows_at trees part = entries_in (layout part) (trees (tree_of part))
+rows_at trees part = entries_of_rows (layout part) (trees (tree_number part))
 
 -- no row in any table
 abbrev pub no_rows : Rows
@@ -178,35 +178,35 @@ rows_of connection = rows_at (state_of connection).now.trees
 
 -- the rows of both tables, as a list
 abbrev pub entries_at : Trees → List Entry
-entries_at trees = map (entry_in Earlier) (trees (tree_of Earlier)) ++ map (entry_in Current) (trees (tree_of Current))
+entries_at trees = map (entry_in Earlier) (trees (tree_number Earlier)) ++ map (entry_in Current) (trees (tree_number Current))
 
 -- the rows of a connection's database
 abbrev pub entries_of : Held MemStore → List Entry
 entries_of connection = entries_at (state_of connection).now.trees
 
 -- what a row stores for its path
-abbrev pub value_of : Entry → StoredValue
-value_of e = record { stale = not (e.mark == fresh_mark); text = e.text }
+abbrev pub value_stored : Entry → StoredValue
+value_stored e = record { stale = not (e.mark == fresh_mark); text = e.text }
 
 -- a row is that of this path
-abbrev pub is_at : List ℕ → Entry → Bool
-is_at path e = bytes_eq path e.path
+abbrev pub is_row_at : List ℕ → Entry → Bool
+is_row_at path e = bytes_eq path e.path
 
 -- what rows store for each path
 abbrev pub stored_by : List Entry → Entries
-stored_by entries path = option_map value_of (find (is_at path) entries)
+stored_by entries path = option_map value_stored (find (is_row_at path) entries)
 
 -- what these rows store for each path
 abbrev pub stored_of : ByPath → Entries
-stored_of rows path = option_map value_of (rows path)
+stored_of rows path = option_map value_stored (rows path)
 
 -- what a connection's database stores for each path
 abbrev pub stored_in : Held MemStore → Entries
 stored_in connection = stored_by (entries_of connection)
 
 -- these are the paths that have a row
-abbrev pub AreNoted : BTreeSet (String Global) → Entries → Type 0
-AreNoted paths entries = (path : List ℕ) → contains_text paths path ≡ is_some (entries path)
+abbrev pub AreNotedPaths : BTreeSet (String Global) → Entries → Type 0
+AreNotedPaths paths entries = (path : List ℕ) → contains_text paths path ≡ is_some (entries path)
 
 -- these texts, in any order, are the paths that are noted
 abbrev pub ListsNoted : BTreeSet (String Global) → Vec (String Global) Global → Type 0
@@ -228,13 +228,13 @@ ForgetsAll paths old new =
     ≡ (if is_one_of other (map string_bytes paths) then false else contains_text old other)
 
 -- the profile with which a row was written
-abbrev pub profile_of : Option Entry → Option Profile
-profile_of None = None
-profile_of (Some e) = option_map numbered_profile e.profile
+abbrev pub written_profile : Option Entry → Option Profile
+written_profile None = None
+written_profile (Some e) = option_map numbered_profile e.profile
 
 -- the profile with which each path's row was written
 abbrev pub profiles_by : List Entry → Profiles
-profiles_by entries path = profile_of (find (is_at path) entries)
+profiles_by entries path = written_profile (find (is_row_at path) entries)
 
 -- this path has this row now, which isn't stale, and each other path has what it had
 abbrev pub StoresRow : List ℕ → List ℕ → List Entry → List Entry → Type 0
@@ -264,7 +264,7 @@ AddsShown rows old new = map stored_seen new ≡ map stored_seen old ++ map row_
 -- a database with the tables, whose rows have their form
 pub record IsFormed (db : Database) : Type 0 where
   pub schema : db.schema ≡ port_schema
-  pub rows : (part : Part) → AreFilled (layout part) (db.trees (tree_of part))
+  pub rows : (part : Part) → AreFilled (layout part) (db.trees (tree_number part))
 
 -- a row that isn't about to be taken out
 abbrev pub is_staying : Entry → Bool
@@ -276,7 +276,7 @@ pub record AreSettled (rows : Rows) : Type 0 where
   pub apart : (path : List ℕ) → is_some (rows Earlier path) ≡ true → rows Current path ≡ None
 
 -- what holds between the calls
-pub record IsKept (s : State) : Type 0 where
+pub record IsTableAtRest (s : State) : Type 0 where
   pub settled : IsSettled s
   pub formed : IsFormed s.now
   pub rows : AreSettled (rows_at s.now.trees)
@@ -287,12 +287,12 @@ AllowsFor has_earlier rows = has_earlier ≡ false → rows Earlier ≡ no_rows 
 
 -- what holds between the calls, where the release before may have a row or may not
 pub record IsKeptWith (has_earlier : Bool) (s : State) : Type 0 where
-  pub kept : IsKept s
+  pub kept : IsTableAtRest s
   pub earlier : AllowsFor has_earlier (rows_at s.now.trees)
 
 -- between the calls, with these rows
 pub record Holds (s : State) (rows : Rows) : Type 0 where
-  pub kept : IsKept s
+  pub kept : IsTableAtRest s
   pub are : rows_at s.now.trees ≡ rows
 
 -- in a transaction, with these rows

@@ -2,11 +2,11 @@
 ghost use Rattle.std.specs.Prelude.{◌≡◌, [], None, IfOk, OnOk, false};
 ghost use Rattle.table_facts.specs.Tables.{no_schema};
 ghost use Rattle.table_facts.specs.States.{IsOpen, KeepsCommit, Stays, state_of};
-ghost use Rattle.index_store.specs.PortTable.{IsKept, IsFormed, Holds, AreShown, rows_of, stored_of, no_rows};
+ghost use Rattle.index_store.specs.PortTable.{IsTableAtRest, IsFormed, Holds, AreShown, rows_of, stored_of, no_rows};
 ghost use Rattle.index_store.specs.PortTable.{all_marked, staying_of, earlier_schema};
 ghost use Rattle.index_store.specs.PortTable.{select_rows, mark_row, mark_rows, delete_rows};
-ghost use Rattle.index_store.specs.Marking.{Alters, InsertsEarlier, WritesCurrent, ReplacesCurrent};
-ghost use Rattle.index_store.specs.Marking.{SaysHasRow, MarksRow, mark_number};
+ghost use Rattle.index_store.specs.Marks.{Alters, InsertsEarlier, WritesCurrent, ReplacesCurrent};
+ghost use Rattle.index_store.specs.Marks.{SaysHasRow, MarksRow, mark_number};
 
 use mk_text::Profile;
 use sqlite::{Connection, Error, MemStore, Row, Transaction, params};
@@ -115,7 +115,7 @@ pub(crate) fn create_current(conn: &mut Connection<MemStore>) -> Result<(), Erro
 
 /// All rows of a table.
 pub(crate) fn all_rows(conn: &mut Connection<MemStore>, part: Part) -> Result<Vec<Row>, Error>
-    requires { IsKept (state_of conn.old) }
+    requires { IsTableAtRest (state_of conn.old) }
     ensures rows { IfOk result (AreShown (stored_of (rows_of conn.old part))) }
     ensures stays { Stays (state_of conn.old) (state_of conn.new) }
 {

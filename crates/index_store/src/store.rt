@@ -5,9 +5,9 @@ ghost use Rattle.index_store.specs.Entries.{HasNoRow, SameRows, KeepsProfiles};
 ghost use Rattle.index_store.specs.PortTable.{stored_by, profiles_by, StoresRow, WritesUnprofiled};
 ghost use Rattle.index_store.specs.PortTable.{ListsNoted, NotesPath, ForgetsIf, ForgetsAll};
 
+use crate::change::{Change, open, write};
 use crate::path_rows::{PathRows, StoredRow};
-use crate::reading::read_rows;
-use crate::writing::{Change, open, write};
+use crate::rows::read_rows;
 use mk_paths::FilesFault;
 use mk_text::Profile;
 use sqlite::{Connection, MemStore};
@@ -32,7 +32,7 @@ impl Model for IndexStore {
     ghost use Rattle.std.specs.Prelude.{List};
     ghost use Rattle.sqlite.specs.Held.{state};
     ghost use Rattle.sqlite.specs.Steps.{over_memory};
-    ghost use Rattle.index_store.specs.PortTable.{AreNoted, Entry, entries_code, entries_of, stored_in, IsKeptWith};
+    ghost use Rattle.index_store.specs.PortTable.{AreNotedPaths, Entry, entries_code, entries_of, stored_in, IsKeptWith};
 
     ghost Value = { List Entry };
 
@@ -41,7 +41,7 @@ impl Model for IndexStore {
     ghost view = { λ store. entries_of store.conn };
 
     ghost invariant = { λ store. IsKeptWith store.has_earlier (state over_memory store.conn)
-        × AreNoted store.paths (stored_in store.conn) };
+        × AreNotedPaths store.paths (stored_in store.conn) };
 }
 
 impl IndexStore {

@@ -4,37 +4,38 @@ use Rattle.std.specs.Prelude.{option_map, option_to_list}
 use Rattle.mk_paths.specs.Place.{place}
 use Rattle.mk_paths.specs.World.{World, FileMap, files_in}
 use Rattle.mk_eval.specs.Meaning.{means}
-use Rattle.mk_eval.specs.Sharing.{cost_of}
+use Rattle.mk_eval.specs.Agreement.{cost_of}
 use Rattle.mk_eval.specs.declared.outcome.Evaluated.{Evaluated}
 use Rattle.mk_eval.specs.declared.outcome.Failed.{Failed}
 use Rattle.mk_eval.specs.declared.outcome.Kind.{Kind}
 use Rattle.mk_eval.specs.declared.outcome.Kind.TheVariants as kinds
-use Rattle.read_trace.specs.declared.evaluating.Evaluation.{Evaluation}
+use Rattle.read_trace.specs.declared.evaluation.Evaluation.{Evaluation}
 use Rattle.eval_cache.specs.Keys.{Key, key_for}
 use Rattle.eval_cache.specs.Right.{evaluation_of}
 use Rattle.pkg_path.specs.Paths.{PathValue}
 use Rattle.ports_index.specs.Pairs.{Pair}
-use Rattle.ports_index.specs.Spending.{evaluation_cost, evaluations_of, ChecksFew, SpendsOnOne}
-use Rattle.ports_index.specs.declared.spending.Spent.{Spent}
+use Rattle.ports_index.specs.Spent.{evaluation_cost, evaluations_of, ChecksFew, SpendsOnOne}
+use Rattle.ports_index.specs.declared.spent.Spent.{Spent}
 use Rattle.ports_plain.specs.Answers.{answer_to, reply_after}
-use Rattle.ports_plain.specs.Plain.{Answer, reply_alone, variable_at, port_at}
-use Rattle.ports_plain.specs.Resting.{pair_of, path_asked, port_cost_at, cost_after, cost_if_there, value_cost_of, record_cost_of, record_cost_by}
-use Rattle.ports_plain.specs.Spending.{SpendsFor}
+use Rattle.ports_plain.specs.Requests.{Answer, reply_alone}
+use Rattle.ports_plain.specs.PortReplies.{variable_at, port_at}
+use Rattle.ports_plain.specs.AnswerCosts.{pair_of, path_asked, port_cost_at, cost_after, cost_if_there, value_cost_of, record_cost_of, record_cost_by}
+use Rattle.ports_plain.specs.Spent.{SpendsFor}
 use Rattle.ports_http.specs.Messages.{ReplyMessage}
 use Rattle.turn_amounts.specs.declared.TheConstants.{MOST_CHECKS, TURN_UNITS}
-use Rattle.eval_ask.specs.Asking.{AsksOn, EvaluatesInTime, HasComeTo, HasLooked, IsAnswerTo, IsShort, IsUpFrom, AskingSpends, spent_in, spent_on, total_of}
+use Rattle.eval_ask.specs.Ask.{AsksOn, EvaluatesInTime, HasComeTo, HasLooked, IsAnswerTo, IsShort, IsUpFrom, AskingSpends, spent_in, spent_less_saved, total_of}
 use Rattle.eval_ask.proofs.AnswerLemmas.{few-come, in-time-looked, short-looked}
 use Rattle.index_keep.specs.Turns.{RefreshView}
-use Rattle.eval_ask.specs.declared.asking.AskTurned.{AskTurned}
-use Rattle.eval_ask.specs.declared.asking.AskTurned.TheVariants.{More, Done}
-use Rattle.eval_ask.specs.declared.asking.Asked.{Asked}
-use Rattle.kept_ports.specs.declared.evaluating.PortAsk.{PortAsk}
+use Rattle.eval_ask.specs.declared.ask.AskTurned.{AskTurned}
+use Rattle.eval_ask.specs.declared.ask.AskTurned.TheVariants.{More, Done}
+use Rattle.eval_ask.specs.declared.ask.Asked.{Asked}
+use Rattle.kept_ports.specs.declared.port_ask.PortAsk.{PortAsk}
 use Rattle.kept_ports.specs.declared.under_way.Stage.TheVariants.{Evaluating}
 use Rattle.ports_plain.specs.declared.port_questions.PortQuestion.{PortQuestion}
 use Rattle.ports_plain.specs.declared.port_questions.PortQuestion.TheVariants.{Variable, Record}
-use Rattle.kept_ports.specs.Evaluating.{IsPortAsk}
+use Rattle.kept_ports.specs.PortAsk.{IsPortAsk}
 use Rattle.ports_plain.specs.declared.questions.Question.TheVariants.{OfPort}
-use Rattle.kept_ports.specs.Pending.{ActsForValue, Answers, LeavesOpen, RepliesInTime, StaysWithin}
+use Rattle.kept_ports.specs.UnderWay.{ActsForValue, IsReplyToQuestion, LeavesOpen, RepliesInTime, StaysWithin}
 
 abbrev pub pair_with : PathValue → List ℕ → Pair
 pair_with path makefile = record { makefile = makefile; flavors = path.flavors }
@@ -157,17 +158,17 @@ module _ (world : World) (question : PortQuestion) (makefile : List ℕ) (asked 
     cost_all : cost ≡ cost_after question makefile (means world makefile (path_asked question).flavors)
     cost_all = cost_is ∙ ap (cost_after question makefile) outcome_is
 
-    pub made-answers : (reply : ReplyMessage) → reply ≡ reply_after question makefile asked.evaluation.value.outcome → Answers world (OfPort question) reply
+    pub made-answers : (reply : ReplyMessage) → reply ≡ reply_after question makefile asked.evaluation.value.outcome → IsReplyToQuestion world (OfPort question) reply
     made-answers reply made =
         ap reply_alone made
         ∙ ap (λ outcome. reply_alone (reply_after question makefile outcome)) outcome_is ∙ answered world question makefile placed
 
-    pub made-spends : AskingSpends → SpendsFor world (OfPort question) (spent_on asked cost)
+    pub made-spends : AskingSpends → SpendsFor world (OfPort question) (spent_less_saved asked cost)
     made-spends law =
-        spends world question makefile (spent_on asked cost) placed
-        (subst (λ n. SpendsOnOne n (cost_of (means world makefile (path_asked question).flavors)) 1 (spent_on asked cost)) cost_all (law (files_in world) _ asked cost is))
+        spends world question makefile (spent_less_saved asked cost) placed
+        (subst (λ n. SpendsOnOne n (cost_of (means world makefile (path_asked question).flavors)) 1 (spent_less_saved asked cost)) cost_all (law (files_in world) _ asked cost is))
 
-    pub made-up : (before : Spent) → asked.units ≤ 2 ^ 64 - 1 → IsUpFrom before (spent_in (Done asked)) → IsUpFrom before (spent_on asked cost)
+    pub made-up : (before : Spent) → asked.units ≤ 2 ^ 64 - 1 → IsUpFrom before (spent_in (Done asked)) → IsUpFrom before (spent_less_saved asked cost)
     made-up before small up = record {
       units = saved_less before.units asked.units (cost_of asked.evaluation.value.outcome) cost up.units
           (λ some. is.whole some ∙ ap cost_of (sym outcome_is))
@@ -186,7 +187,7 @@ module _ (world : World) (question : PortQuestion) (makefile : List ℕ) (asked 
     made_low all evaluation own_cost own_evaluation before same one less = omega (arith, same, one, less)
 
     -- and made in time
-    pub made-in-time : (before : Spent) → total_of (spent_in (Done asked)) < total_of before + TURN_UNITS → RepliesInTime world question before (spent_on asked cost)
+    pub made-in-time : (before : Spent) → total_of (spent_in (Done asked)) < total_of before + TURN_UNITS → RepliesInTime world question before (spent_less_saved asked cost)
     made-in-time before less =
         inr (made_low cost (cost_of asked.evaluation.value.outcome) (port_cost_at world question) (evaluation_cost world (pair_of world (path_asked question))) before
         (cost_all ∙ sym (port_cost world question makefile placed)) (ap cost_of outcome_is ∙ ap (evaluation_cost world) (sym (pair-there world (path_asked question) makefile placed))) less)
@@ -194,7 +195,7 @@ module _ (world : World) (question : PortQuestion) (makefile : List ℕ) (asked 
     less_cost : (evaluation units : ℕ) → cost - (evaluation - units) ≤ cost
     less_cost evaluation units = omega arith
 
-    pub made-within : StaysWithin world (OfPort question) (spent_on asked cost)
+    pub made-within : StaysWithin world (OfPort question) (spent_less_saved asked cost)
     made-within =
-        stays world question makefile (spent_on asked cost) placed
-        (subst (λ n. (spent_on asked cost).units ≤ n) cost_all (less_cost (cost_of asked.evaluation.value.outcome) asked.units)) is.few
+        stays world question makefile (spent_less_saved asked cost) placed
+        (subst (λ n. (spent_less_saved asked cost).units ≤ n) cost_all (less_cost (cost_of asked.evaluation.value.outcome) asked.units)) is.few

@@ -16,25 +16,25 @@ use Rattle.ports_index.specs.Index.{needed_paths}
 use Rattle.ports_index.specs.PathLaws.{MakefilesAreEvaluated}
 use Rattle.ports_index.specs.PathOutcomes.{Absent, cost_at}
 use Rattle.ports_index.specs.Pairs.{pairs_at}
-use Rattle.ports_index.specs.Spending.{no_spending, spent_together, ChecksFew}
-use Rattle.ports_index.specs.declared.spending.Spent.{Spent}
+use Rattle.ports_index.specs.Spent.{no_spending, spent_together, ChecksFew}
+use Rattle.ports_index.specs.declared.spent.Spent.{Spent}
 use Rattle.ports_plain.specs.declared.index_questions.IndexQuestion.{IndexQuestion}
 use Rattle.ports_plain.specs.declared.questions.Question.TheVariants.{OfIndex}
 use Rattle.index_store.specs.Entries.{Entries}
-use Rattle.mk_paths.specs.declared.asking.FilesFault.{FilesFault}
-use Rattle.index_keep.specs.Keeping.{TurnsKeeper, refresh_of, rows_of}
+use Rattle.mk_paths.specs.declared.files.FilesFault.{FilesFault}
+use Rattle.index_keep.specs.Keeper.{TurnsKeeper, refresh_of, keeper_rows}
 use Rattle.index_keep.specs.Shown.{ShownRows, fresh, fresh_outcome}
 use Rattle.index_keep.specs.declared.keeper.Keeper.{Keeper}
 use Rattle.index_keep.proofs.LeftLemmas.{stays-fresh}
-use Rattle.index_keep.specs.Turns.{DropsTurn, RefreshView, refresh_at, spent_by, spent_in_all, cost_left, count_left, evaluations_left, paths_left, units_left, units_saved, IsWithinLeft, GoesOn, RenewsOne, EndsRefresh, PaysAll, StayFresh, TakesTurn, RefreshingPays}
+use Rattle.index_keep.specs.Turns.{DropsTurn, RefreshView, refresh_at, spent_by, spent_in_all, cost_left, count_left, evaluations_left, paths_left, units_left, units_saved, IsWithinLeft, ContinuesRefresh, RenewsOne, EndsRefresh, PaysAll, StayFresh, IsRefreshTurn, RefreshingPays}
 use Rattle.index_keep.specs.declared.keeper.Refreshed.{Refreshed}
 use Rattle.mk_paths.specs.FilesView.{FilesView}
-use Rattle.mk_paths.specs.declared.asking.Names as names
+use Rattle.mk_paths.specs.declared.files.Names as names
 use Rattle.index_store.specs.declared.path_rows.PathRows as rows
 use Rattle.eval_cache.proofs.UseLemmas.{UsesCache-on}
-use Rattle.kept_ports.specs.Leaving.{LeavesPorts, world_at}
-use Rattle.kept_ports.specs.declared.keeping.KeptPorts.{KeptPorts}
-use Rattle.kept_ports.specs.Pending.{IsSpentOnIndex, RefreshesInTime, StaysWithin}
+use Rattle.kept_ports.specs.Ports.{LeavesPorts, world_of_ports}
+use Rattle.kept_ports.specs.declared.ports.KeptPorts.{KeptPorts}
+use Rattle.kept_ports.specs.UnderWay.{IsSpentOnIndex, RefreshesInTime, StaysWithin}
 
 abbrev by_bytes : List ℕ → List ℕ → Ordering
 by_bytes = slice_cmp nat_cmp
@@ -110,7 +110,7 @@ sum_few : (most before more : ℕ) → min (before + more) most ≤ before + mor
 sum_few most before more = omega arith
 
 -- a turn goes on with a path
-pub goes_on : (world : World) (units : ℕ) (old new : RefreshView) (before spent : Spent) → GoesOn world units old new spent → IsSpentOnIndex world old before
+pub goes_on : (world : World) (units : ℕ) (old new : RefreshView) (before spent : Spent) → ContinuesRefresh world units old new spent → IsSpentOnIndex world old before
     → IsSpentOnIndex world new (spent_together before spent)
 goes_on world units old new before spent goes is =
     let rows : old.rows ≡ new.rows = λ i path. sym (goes.rows path) i in
@@ -189,10 +189,10 @@ stays law world refresh question spent is =
     record { units = both.0; checks = both.1 }
 
 -- a turn of a refresh in a world that is the first one, which came to this
-pub turn_in : (first now : World) (units : ℕ) (old new : RefreshView) (turned one : Refreshed) → now ≡ first → turned ≡ one → TakesTurn now units old new turned
-    → TakesTurn first units old new one
+pub turn_in : (first now : World) (units : ℕ) (old new : RefreshView) (turned one : Refreshed) → now ≡ first → turned ≡ one → IsRefreshTurn now units old new turned
+    → IsRefreshTurn first units old new one
 turn_in first now units old new turned one same is takes =
-    subst (TakesTurn first units old new) is (subst (λ (world : World). TakesTurn world units old new turned) same takes)
+    subst (IsRefreshTurn first units old new) is (subst (λ (world : World). IsRefreshTurn world units old new turned) same takes)
 
 -- rows that are fresh stay fresh in one turn after another
 pub fresh-on : (first now : World) (one next last : ShownRows) → now ≡ first → StayFresh first one next → StayFresh now next last → StayFresh first one last
@@ -204,7 +204,7 @@ module _ {F R : Type 0} {files : names.Ghosts F} {entries : rows.Ghosts R} (view
   pub leaves-on : (one next last : KeptPorts F R files entries) → LeavesPorts view stored one next → LeavesPorts view stored next last → LeavesPorts view stored one last
   leaves-on one next last first more = record {
     world = more.world ∙ first.world;
-    fresh = fresh-on (world_at view one) (world_at view next) (rows_of stored one.keeper.now) (rows_of stored next.keeper.now) (rows_of stored last.keeper.now) first.world first.fresh more.fresh;
+    fresh = fresh-on (world_of_ports view one) (world_of_ports view next) (keeper_rows stored one.keeper.now) (keeper_rows stored next.keeper.now) (keeper_rows stored last.keeper.now) first.world first.fresh more.fresh;
     keeper = more.keeper ∙ first.keeper;
     cache = more.cache ∙ first.cache;
     uses = UsesCache-on one.cache.now next.cache.now last.cache.now first.uses more.uses;
@@ -212,7 +212,7 @@ module _ {F R : Type 0} {files : names.Ghosts F} {entries : rows.Ghosts R} (view
 
 -- and in one turn
 pub fresh-once : {R : Type 0} (entries : R → Entries) (world : World) (units : ℕ) (old : RefreshView) (new : Keeper R) (result : Result Refreshed FilesFault)
-    → IfOk result (TurnsKeeper entries world units old new) → OnErr result (DropsTurn old (refresh_of entries new)) → StayFresh world old.rows (rows_of entries new)
+    → IfOk result (TurnsKeeper entries world units old new) → OnErr result (DropsTurn old (refresh_of entries new)) → StayFresh world old.rows (keeper_rows entries new)
 fresh-once entries world units old new (Ok turned) turn drops = stays-fresh world units old (refresh_of entries new) turned turn.turn
 fresh-once entries world units old new (Err fault) turn drops = λ path needed is.
     ap (λ row. is_some (if has_makefile world path then option_and_then fresh_outcome row else Some Absent)) (drops.rows path) ∙ is
@@ -246,7 +246,7 @@ paid-on world old middle new spent so_far more none nothing =
     (units_saved spent.checks) so_far more (ap (λ (s : Spent). s.units) none) (ap (λ (s : Spent). units_saved s.checks) none) (ap (λ (s : Spent). units_saved s.checks) nothing)
 
 -- what a turn told whose last part this was
-pub in-time : RefreshingPays → (world : World) (old middle new : RefreshView) (before : Spent) (turned : Refreshed) → PaidSoFar world old middle → TakesTurn world TURN_UNITS middle new turned
+pub in-time : RefreshingPays → (world : World) (old middle new : RefreshView) (before : Spent) (turned : Refreshed) → PaidSoFar world old middle → IsRefreshTurn world TURN_UNITS middle new turned
     → RefreshesInTime world old new before (spent_together before (spent_by turned))
 in-time law world old middle new before turned so_far takes = record {
   from = middle;

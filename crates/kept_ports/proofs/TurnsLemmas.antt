@@ -1,13 +1,13 @@
 -- How many turns may follow, and what one of them spends.
 use Rattle.std.proofs.Common.{◌≡◌, ◌≤◌, ◌<◌, ◌+◌, ◌-◌, ◌*◌, ◌^◌, min, ℕ, List, length, Some, Result, Ok, Err, IfOk, sym, ap, subst, arith}
 use Rattle.std.specs.Prelude.{option_map, option_to_list}
-use Rattle.mk_base.specs.declared.metering.TheConstants.{UNITS}
+use Rattle.mk_base.specs.declared.budget.TheConstants.{UNITS}
 use Rattle.turn_amounts.specs.declared.TheConstants.{MOST_CHECKS, TURN_UNITS}
 use Rattle.mk_paths.specs.Place.{place}
 use Rattle.mk_paths.specs.World.{World}
 use Rattle.mk_eval.specs.Costs.{CostFew, value_units}
-use Rattle.mk_eval.specs.Meaning.{value_of}
-use Rattle.mk_eval.specs.Sharing.{cost_of}
+use Rattle.mk_eval.specs.Meaning.{value_of_variable}
+use Rattle.mk_eval.specs.Agreement.{cost_of}
 use Rattle.mk_eval.specs.declared.outcome.Evaluated.{Evaluated}
 use Rattle.mk_eval.specs.declared.outcome.Failed.{Failed}
 use Rattle.mk_eval.specs.declared.outcome.Kind.{Kind}
@@ -17,21 +17,21 @@ use Rattle.ports_index.specs.Efforts.{cost_over, evaluations_over}
 use Rattle.ports_index.specs.Index.{needed_paths}
 use Rattle.ports_index.specs.PathLaws.{MakefilesAreEvaluated}
 use Rattle.ports_index.specs.PathOutcomes.{with_cost}
-use Rattle.ports_index.specs.Spending.{no_spending, spent_together}
-use Rattle.ports_index.specs.declared.spending.Spent.{Spent}
-use Rattle.ports_plain.specs.Resting.{path_asked, cost_after, cost_for, cost_if_there, rests_for, record_cost_by, record_cost_of, value_cost_of}
+use Rattle.ports_index.specs.Spent.{no_spending, spent_together}
+use Rattle.ports_index.specs.declared.spent.Spent.{Spent}
+use Rattle.ports_plain.specs.AnswerCosts.{path_asked, cost_after, cost_for, cost_if_there, rests_for, record_cost_by, record_cost_of, value_cost_of}
 use Rattle.ports_plain.specs.declared.index_questions.IndexQuestion.{IndexQuestion}
 use Rattle.ports_plain.specs.declared.questions.Question.TheVariants.{OfPort, OfIndex}
 use Rattle.ports_plain.specs.declared.questions.Question.{Question}
-use Rattle.eval_ask.specs.Asking.{HasLooked, IsShort, IsUpFrom, SpendsTurn, spent_in, spent_on, total_of}
-use Rattle.index_keep.specs.Turns.{GoesOn, RefreshView, RefreshingPays, RenewsOne, TakesTurn, cost_left, evaluations_left, spent_by, spent_in_all}
+use Rattle.eval_ask.specs.Ask.{HasLooked, IsShort, IsUpFrom, SpendsTurn, spent_in, spent_less_saved, total_of}
+use Rattle.index_keep.specs.Turns.{ContinuesRefresh, RefreshView, RefreshingPays, RenewsOne, IsRefreshTurn, cost_left, evaluations_left, spent_by, spent_in_all}
 use Rattle.index_keep.specs.declared.keeper.Refreshed.{Refreshed}
 use Rattle.index_keep.specs.declared.keeper.Refreshed.TheVariants as turned
 use Rattle.index_keep.specs.Shown.{ShownRows}
-use Rattle.eval_ask.specs.declared.asking.Asked.{Asked}
-use Rattle.eval_ask.specs.declared.asking.AskTurned.{AskTurned}
-use Rattle.eval_ask.specs.declared.asking.AskTurned.TheVariants.{More, Done}
-use Rattle.kept_ports.specs.Pending.{StaysWithin}
+use Rattle.eval_ask.specs.declared.ask.Asked.{Asked}
+use Rattle.eval_ask.specs.declared.ask.AskTurned.{AskTurned}
+use Rattle.eval_ask.specs.declared.ask.AskTurned.TheVariants.{More, Done}
+use Rattle.kept_ports.specs.UnderWay.{StaysWithin}
 use Rattle.kept_ports.specs.TurnsLeft.{open_turns, turns_after, turns_of_refresh}
 use Rattle.ports_plain.specs.declared.port_questions.PortQuestion.{PortQuestion}
 use Rattle.ports_plain.specs.declared.port_questions.PortQuestion.TheVariants.{Variable, Record}
@@ -106,14 +106,14 @@ most_by kinds.Other cost more few = omega arith
 -- what is asked costs at most 50,000 units more than the evaluation
 pub most-asked : CostFew → RecordsCostFew → (question : PortQuestion) (makefile : List ℕ) (outcome : Result Evaluated Failed)
     → cost_after question makefile outcome ≤ cost_of outcome + UNITS
-most-asked few records (Variable asked) makefile (Ok evaluated) = most_with evaluated.cost (value_units (value_of evaluated.env makefile asked.name)) (few.values evaluated.env makefile asked.name)
+most-asked few records (Variable asked) makefile (Ok evaluated) = most_with evaluated.cost (value_units (value_of_variable evaluated.env makefile asked.name)) (few.values evaluated.env makefile asked.name)
 most-asked few records (Variable asked) makefile (Err failed) = omega arith
 most-asked few records (Record path) makefile (Ok evaluated) = most_by evaluated.kind evaluated.cost (record_units (record_of evaluated.env makefile)) (records evaluated.env makefile)
 most-asked few records (Record path) makefile (Err failed) = omega arith
 
 -- the same in the turn that makes it, which had spent fewer than its units before
 pub few-made : (before : Spent) (asked : Asked) (cost : ℕ) → cost ≤ cost_of asked.evaluation.value.outcome + UNITS
-    → total_of (spent_in (Done asked)) < total_of before + TURN_UNITS → IsShort TURN_UNITS before (spent_on asked cost)
+    → total_of (spent_in (Done asked)) < total_of before + TURN_UNITS → IsShort TURN_UNITS before (spent_less_saved asked cost)
 few-made before asked cost most few = omega (arith, most, few)
 
 -- ---- turns of a refresh
@@ -154,7 +154,7 @@ within_both : (units checks cost count : ℕ) → units ≤ cost → checks ≤ 
 within_both units checks cost count one other = omega (arith, one, other)
 
 -- a path's evaluation went on
-pub goes-less : (world : World) (old new : RefreshView) (spent : Spent) → GoesOn world TURN_UNITS old new spent → turns_of_refresh world new < turns_of_refresh world old
+pub goes-less : (world : World) (old new : RefreshView) (spent : Spent) → ContinuesRefresh world TURN_UNITS old new spent → turns_of_refresh world new < turns_of_refresh world old
 goes-less world old new spent goes =
     let rows : old.rows ≡ new.rows = λ i path. sym (goes.rows path) i in
     subst (λ (rows : ShownRows). turns_of_refresh world new < open_turns (evaluations_left world rows) (cost_left world rows) (total_of old.begun)) (sym rows)
@@ -178,7 +178,7 @@ pub short-together : (before begun spent : Spent) → IsShort TURN_UNITS begun (
 short-together before begun spent few = omega (arith, few)
 
 -- what a turn of the refresh spends is little
-pub short-turn : (world : World) (old new : RefreshView) (before : Spent) (turned : Refreshed) → TakesTurn world TURN_UNITS old new turned → IsShort TURN_UNITS before (spent_together before (spent_by turned))
+pub short-turn : (world : World) (old new : RefreshView) (before : Spent) (turned : Refreshed) → IsRefreshTurn world TURN_UNITS old new turned → IsShort TURN_UNITS before (spent_together before (spent_by turned))
 short-turn world old new before (turned.Evaluated spent) takes = short-together before old.begun spent takes.short
 short-turn world old new before (turned.More spent) takes = short-together before old.begun spent takes.short
 short-turn world old new before turned.Done takes = omega arith

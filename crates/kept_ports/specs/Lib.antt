@@ -1,4 +1,6 @@
-pub mod Leaving
-pub mod Evaluating
-pub mod Pending
+pub mod Ports
+pub mod PortAsk
+pub mod UnderWay
 pub mod TurnsLeft
+pub mod PortTurns
+pub mod Questions

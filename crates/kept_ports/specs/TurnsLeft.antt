@@ -3,21 +3,21 @@ use Rattle.std.specs.Prelude.{◌≡◌, ◌≤◌, ◌<◌, ◌+◌, ◌*◌, �
 use Rattle.turn_amounts.specs.declared.TheConstants.{MOST_CHECKS, TURN_UNITS}
 use Rattle.mk_paths.specs.Place.{place}
 use Rattle.mk_paths.specs.World.{World}
-use Rattle.ports_index.specs.Spending.{no_spending}
-use Rattle.ports_index.specs.declared.spending.Spent.{Spent}
+use Rattle.ports_index.specs.Spent.{no_spending}
+use Rattle.ports_index.specs.declared.spent.Spent.{Spent}
 use Rattle.ports_plain.specs.declared.port_questions.PortQuestion.{PortQuestion}
 use Rattle.ports_plain.specs.declared.port_questions.PortQuestion.TheVariants.{Variable, Record}
 use Rattle.ports_plain.specs.declared.questions.Question.{Question}
 use Rattle.ports_plain.specs.declared.questions.Question.TheVariants.{OfPort}
-use Rattle.ports_plain.specs.Resting.{cost_for, rests_for}
-use Rattle.eval_ask.specs.Asking.{IsShort, total_of}
+use Rattle.ports_plain.specs.AnswerCosts.{cost_for, rests_for}
+use Rattle.eval_ask.specs.Ask.{IsShort, total_of}
 use Rattle.index_keep.specs.Turns.{RefreshView, cost_left, evaluations_left}
 use Rattle.kept_ports.specs.declared.under_way.Turned.{Turned}
 use Rattle.kept_ports.specs.declared.under_way.Turned.TheVariants.{More, Done}
 use Rattle.kept_ports.specs.declared.under_way.Stage.{Stage}
 use Rattle.kept_ports.specs.declared.under_way.Stage.TheVariants.{Begun, Evaluating, Ready, Refreshing}
 use Rattle.kept_ports.specs.declared.under_way.UnderWay.{UnderWay}
-use Rattle.kept_ports.specs.Pending.{IsPending, RefreshesInTime, TurnsQuestion, question_in}
+use Rattle.kept_ports.specs.UnderWay.{IsUnderWayOver, RefreshesInTime, TurnsQuestion, question_in}
 
 -- How many turns may end without an answer, if so many makefiles are left to be evaluated at this cost, and so much of
 -- that is spent. It is one for each of them, and one for as many units and answers that may be checked as a turn has units.
@@ -45,10 +45,10 @@ abbrev pub turns_left : World → RefreshView → UnderWay → ℕ
 turns_left world refresh under_way = turns_at world refresh under_way.spent under_way.stage
 
 -- a question before its first turn: nothing is spent on it, and no more turns may come than its cost allows
-pub record Begins (world : World) (refresh : RefreshView) (question : Question) (under_way : UnderWay) : Type 0 where
+pub record IsBeforeFirstTurn (world : World) (refresh : RefreshView) (question : Question) (under_way : UnderWay) : Type 0 where
   pub asked : question_in under_way ≡ question
   pub nothing : under_way.spent ≡ no_spending
-  pub pending : IsPending world refresh under_way
+  pub pending : IsUnderWayOver world refresh under_way
   pub turns : turns_left world refresh under_way ≤ turns_after world question 0
 
 -- a turn that doesn't answer a question leaves fewer such turns
@@ -76,14 +76,14 @@ TellsNoRecord (Record path) (More under_way) = Unit {0}
 TellsNoRecord (Variable asked) came = Unit {0}
 
 -- the same of a question that had no turn yet, unless its port has no makefile
-abbrev pub TellsNoRecordAtOnce : World → PortQuestion → Turned → Type 0
-TellsNoRecordAtOnce world (Record path) (Done reply spent) = place world path.directory ≡ None
-TellsNoRecordAtOnce world (Record path) (More under_way) = Unit {0}
-TellsNoRecordAtOnce world (Variable asked) came = Unit {0}
+abbrev pub TellsNoRecordYet : World → PortQuestion → Turned → Type 0
+TellsNoRecordYet world (Record path) (Done reply spent) = place world path.directory ≡ None
+TellsNoRecordYet world (Record path) (More under_way) = Unit {0}
+TellsNoRecordYet world (Variable asked) came = Unit {0}
 
 -- the same of a question that is as far as this
 abbrev pub TellsRecordLater : World → Stage → Turned → Type 0
-TellsRecordLater world (Begun asked) came = TellsNoRecordAtOnce world asked came
+TellsRecordLater world (Begun asked) came = TellsNoRecordYet world asked came
 TellsRecordLater world (Evaluating asked ask) came = TellsNoRecord asked came
 TellsRecordLater world (Ready asked reply) came = Unit {0}
 TellsRecordLater world (Refreshing asked) came = Unit {0}

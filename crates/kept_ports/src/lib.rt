@@ -2,9 +2,9 @@
 //! the files.
 #![tactic(auto)]
 
-mod evaluating;
-mod keeping;
-mod turning;
+mod port_ask;
+mod ports;
+mod turns;
 mod under_way;
 
 pub use under_way::{Turned, UnderWay};

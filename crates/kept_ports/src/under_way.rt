@@ -1,17 +1,12 @@
 //! What is under way for a question that isn't answered yet.
-ghost use Rattle.std.specs.Prelude.{◌≡◌, IfOk};
-ghost use Rattle.mk_paths.specs.FilesView.{world_of};
-ghost use Rattle.eval_cache.specs.Using.{UsesCache};
-ghost use Rattle.ports_index.specs.Spending.{no_spending};
-ghost use Rattle.index_keep.specs.Keeping.{IsKept, refresh_of, rows_of};
-ghost use Rattle.kept_ports.specs.Pending.{IsPending};
-ghost use Rattle.index_keep.specs.Turns.{RefreshView, StayFresh};
-ghost use Rattle.mk_paths.specs.World.{World};
+ghost use Rattle.mk_paths.specs.FilesView.{view_world};
+ghost use Rattle.eval_cache.specs.CacheUse.{UsesCache};
+ghost use Rattle.index_keep.specs.Keeper.{IsKept};
 ghost use Rattle.ports_plain.specs.declared.questions.Question.TheVariants.{OfPort, OfIndex};
-ghost use Rattle.kept_ports.specs.TurnsLeft.{Begins, TurnsOn};
+ghost use Rattle.kept_ports.specs.Questions.{BeginsAtRest, BeginsQuestion, IsPendingOver, KeepsFresh, Works};
 
-use crate::evaluating::PortAsk;
-use crate::keeping::KeptPorts;
+use crate::port_ask::PortAsk;
+use crate::ports::KeptPorts;
 use eval_cache::EvalCache;
 use index_keep::Keeper;
 use index_store::PathRows;
@@ -56,7 +51,7 @@ pub enum Turned {
 impl UnderWay {
     /// A question about a port, before its first turn.
     pub fn of_port(question: PortQuestion) -> UnderWay
-        ensures { (world : World) (refresh : RefreshView) → Begins world refresh (OfPort question) result }
+        ensures { BeginsQuestion (OfPort question) result }
     {
         UnderWay {
             stage: Stage::Begun(question),
@@ -67,8 +62,7 @@ impl UnderWay {
     /// A question about the index, before its first turn. No path is under evaluation then: a refresh that another
     /// question has left must be stopped.
     pub fn of_index(question: IndexQuestion) -> UnderWay
-        ensures { (world : World) (refresh : RefreshView) → refresh.begun ≡ no_spending
-            → Begins world refresh (OfIndex question) result }
+        ensures { BeginsAtRest (OfIndex question) result }
     {
         makefiles_are_evaluated();
         UnderWay {
@@ -99,14 +93,11 @@ impl UnderWay {
         settings: &Settings,
         keeper: &mut Keeper<R>,
     ) -> Result<Turned, FilesFault>
-        requires kept { IsKept R.entries (world_of (F.view files) settings.now) keeper.old }
-        requires pending { IsPending (world_of (F.view files) settings.now)
-            (refresh_of R.entries keeper.old) self }
-        ensures turn { IfOk result (TurnsOn (world_of (F.view files) settings.now)
-            (refresh_of R.entries keeper.old) (refresh_of R.entries keeper.new) self) }
-        ensures kept { IsKept R.entries (world_of (F.view files) settings.now) keeper.new }
-        ensures fresh { StayFresh (world_of (F.view files) settings.now)
-            (rows_of R.entries keeper.old) (rows_of R.entries keeper.new) }
+        requires kept { IsKept R.entries (view_world (F.view files) settings.now) keeper.old }
+        requires pending { IsPendingOver R.entries F.view files settings.now keeper.old self }
+        ensures turn { Works R.entries result F.view files settings.now keeper.old keeper.new self }
+        ensures kept { IsKept R.entries (view_world (F.view files) settings.now) keeper.new }
+        ensures fresh { KeepsFresh R.entries F.view files settings.now keeper.old keeper.new }
         ensures uses { UsesCache cache.old cache.new }
     {
         let mut files = Recorder::new(alloc, files, Trace::new(alloc));

@@ -1,5 +1,5 @@
 //! Makefiles evaluated, and values of their variables.
-use crate::failing::{Asking, FailingFiles, failing_answer};
+use crate::failing_files::{Asking, FailingFiles, failing_answer};
 use crate::files::given_name;
 use crate::variables::{fault_answer, text_of_variable};
 use crate::world::World;

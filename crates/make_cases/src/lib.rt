@@ -2,7 +2,7 @@
 #![tactic(auto)]
 
 mod evaluation;
-mod failing;
+mod failing_files;
 mod files;
 mod loops;
 mod setup;
@@ -11,7 +11,7 @@ mod variables;
 mod world;
 
 pub use evaluation::{add_cost, evaluated, failure, makefile};
-pub use failing::{Asking, FailingFiles, failing_answer};
+pub use failing_files::{Asking, FailingFiles, failing_answer};
 pub use files::{given_name, given_path, trees_answer, two_answer};
 pub use setup::Setup;
 pub use world::World;

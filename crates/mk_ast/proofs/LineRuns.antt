@@ -1,11 +1,11 @@
 -- Reading lines one after another.
 use Rattle.std.proofs.Common.{◌≡◌, ℕ, List, [], ◌∷◌, Option, Some, None, Result, Ok, Err, refl, sym, ap, ◌∙◌}
 use Rattle.mk_text.specs.Lines.{LogicalLine}
-use Rattle.mk_ast.specs.declared.parsing.ParseError.{ParseError}
-use Rattle.mk_ast.specs.declared.parsing.ParseError.TheVariants as errors
+use Rattle.mk_ast.specs.declared.parser.ParseError.{ParseError}
+use Rattle.mk_ast.specs.declared.parser.ParseError.TheVariants as errors
 use Rattle.mk_ast.specs.Parts.{part_of}
 use Rattle.mk_ast.specs.Blocks.{ReadingState, step, go_on_from, read_on, whole_reading}
-use Rattle.mk_ast.specs.Parsing.{Answers, with_kind}
+use Rattle.mk_ast.specs.Parser.{HoldsOfAnswer, with_kind}
 use Rattle.mk_ast.specs.ReaderViews.{Steps}
 
 pub read-end : (limit : ℕ) (held : ReadingState) → read_on limit held [] ≡ Ok held
@@ -25,7 +25,7 @@ read-next limit held next line lines is = read-line limit held line lines (Some 
 -- a line that is in a wrong place
 pub read-wrong : (limit : ℕ) (held : ReadingState) (line : LogicalLine) (lines : List LogicalLine) (error : ParseError) (reading : Result ReadingState ℕ)
     → reading ≡ read_on limit held (line ∷ lines) → Steps (Err error) line.line (step limit held (part_of line))
-    → Answers (Err error) (λ answer. answer ≡ with_kind (whole_reading reading))
+    → HoldsOfAnswer (Err error) (λ answer. answer ≡ with_kind (whole_reading reading))
 read-wrong limit held line lines (errors.Fault fault) reading is stops =
     ap Err stops.1 ∙ ap (λ r. with_kind (whole_reading r)) (let stop : Err line.line ≡ reading = sym (is ∙ read-line limit held line lines None stops.0) in stop)
 read-wrong limit held line lines (errors.Memory _) reading is stops = tt

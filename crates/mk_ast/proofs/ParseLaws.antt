@@ -5,14 +5,14 @@ use Rattle.std.proofs.lemmas.Str.{is_utf8-from_IsUtf8}
 use Rattle.general_facts.specs.Texts.{is_utf8-not}
 use Rattle.mk_text.specs.Lines.{logical_lines}
 use Rattle.mk_ast.specs.declared.nodes.TheConstants.{BLOCKS}
-use Rattle.mk_ast.specs.declared.parsing.ParseFault.{ParseFault}
-use Rattle.mk_ast.specs.declared.parsing.ParseError.{ParseError}
-use Rattle.mk_ast.specs.declared.parsing.ParseError.TheVariants as errors
+use Rattle.mk_ast.specs.declared.parser.ParseFault.{ParseFault}
+use Rattle.mk_ast.specs.declared.parser.ParseError.{ParseError}
+use Rattle.mk_ast.specs.declared.parser.ParseError.TheVariants as errors
 use Rattle.mk_ast.specs.declared.nodes.Makefile.{Makefile}
 use Rattle.mk_ast.specs.Trees.{Block}
-use Rattle.mk_ast.specs.Reading.{Reads}
+use Rattle.mk_ast.specs.Reader.{Reads}
 use Rattle.mk_ast.specs.Blocks.{blocks_of}
-use Rattle.mk_ast.specs.Parsing.{utf8_fault, IsParse, with_kind, parsed, Answers}
+use Rattle.mk_ast.specs.Parser.{utf8_fault, IsParse, with_kind, parsed, HoldsOfAnswer}
 use Rattle.mk_ast.proofs.ReadLaws.{blocks-read}
 use Rattle.mk_ast.proofs.ReadOnce.{read-once}
 
@@ -37,7 +37,7 @@ parses-by bytes false is = subst (IsParse bytes) (sym (by_test bytes false is)) 
 pub parses-parsed : (bytes : List ℕ) → IsParse bytes (parsed bytes)
 parses-parsed bytes = parses-by bytes (is_utf8 bytes) refl
 
-pub answers-parses : (bytes : List ℕ) (result : Result Makefile ParseError) → Answers result (λ answer. answer ≡ parsed bytes) → Answers result (IsParse bytes)
+pub answers-parses : (bytes : List ℕ) (result : Result Makefile ParseError) → HoldsOfAnswer result (λ answer. answer ≡ parsed bytes) → HoldsOfAnswer result (IsParse bytes)
 answers-parses bytes (Ok makefile) is = subst (IsParse bytes) (sym is) (parses-parsed bytes)
 answers-parses bytes (Err (errors.Fault fault)) is = subst (IsParse bytes) (sym is) (parses-parsed bytes)
 answers-parses bytes (Err (errors.Memory _)) is = tt

@@ -5,7 +5,7 @@ use Rattle.std.proofs.lemmas.Option.{option_and_then_some}
 use Rattle.mk_text.specs.Lines.{LogicalLine}
 use Rattle.mk_ast.specs.Parts.{Part, IfPart, EndifPart, ForPart, EndforPart, part_of}
 use Rattle.mk_ast.specs.Trees.{Tree, Block, tree_parts, block_parts, block_depth, IsReadAs}
-use Rattle.mk_ast.specs.Reading.{parts_of, CanGoOn, IsUnclosed, Reads}
+use Rattle.mk_ast.specs.Reader.{parts_of, CanGoOn, IsUnclosed, Reads}
 use Rattle.mk_ast.specs.Blocks.{add, Stage, InIf, InElif, InElse, InFor, Open, ReadingState, Ends, part_effect, apply_effect, go_on, step, go_on_from, read_on, whole_block, whole_reading, start_state, blocks_of}
 use Rattle.mk_ast.proofs.StateParts.{stage_parts, stack_parts, parts-part_effect, EffectParts}
 use Rattle.mk_ast.proofs.KeptLines.{kept, kept-of}

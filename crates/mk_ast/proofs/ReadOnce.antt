@@ -7,7 +7,7 @@ use Rattle.std.proofs.lemmas.List.{map-append}
 use Rattle.mk_text.specs.Lines.{LogicalLine}
 use Rattle.mk_ast.specs.Parts.{Part, IfPart, ElifPart, ElsePart, EndifPart, ForPart, EndforPart, PlainPart, part_of}
 use Rattle.mk_ast.specs.Trees.{Tree, LineTree, Block, EmptyBlock, MoreBlock, tree_parts, block_parts, tree_depth, block_depth, IsReadAs}
-use Rattle.mk_ast.specs.Reading.{parts_of, IsOutOfPlace, IsUnclosed, Reads}
+use Rattle.mk_ast.specs.Reader.{parts_of, IsOutOfPlace, IsUnclosed, Reads}
 use Rattle.mk_ast.specs.Blocks.{add, Stage, InIf, InFor, Open, ReadingState, PartEffect, GoesOn, Ends, Wrong, part_effect, apply_effect, go_on, begin, step, go_on_from, read_on, whole_block, whole_reading, start_state, blocks_of}
 use Rattle.mk_ast.proofs.KeptLines.{kept, kept-of, tree_head, first_part, kept-tree}
 use Rattle.mk_ast.proofs.Effects.{of-effect}

@@ -7,6 +7,7 @@ use Rattle.std.specs.Char.{is_ascii_alphabetic}
 use Rattle.std.specs.List.{list_any, position, prefix_len}
 use Rattle.std.specs.Option.{option_and_then}
 use Rattle.std.specs.Str.{bytes_eq}
+use Rattle.general_facts.specs.Ascii.{tab, bang, plus_sign, dot, colon, equals_sign, question_mark}
 use Rattle.mk_text.specs.Blanks.{is_blank, skip_blanks, trim_blanks}
 use Rattle.mk_ast.specs.declared.kinds.Directive.{Directive}
 use Rattle.mk_ast.specs.declared.kinds.Directive.TheVariants as words
@@ -37,7 +38,7 @@ shown_kind kinds.Bad = BadLine
 
 -- a command line begins with a tab (9)
 abbrev pub is_command : List ℕ → Bool
-is_command text = slice_index text 0 == 9
+is_command text = slice_index text 0 == tab
 
 -- a blank line is empty without the blanks at its ends
 abbrev pub is_blank_line : List ℕ → Bool
@@ -71,27 +72,27 @@ directive_after_dot text =
     let end = prefix_len is_ascii_alphabetic text in
     option_map (λ word. DirectiveLine word (drop end text)) (directive_named (take end text))
 
--- the directive that a line is: it follows a dot (46), which begins the line, and any blanks
+-- the directive that a line is: it follows a dot, which begins the line, and any blanks
 abbrev pub directive_in : List ℕ → Option TextLineKind
 directive_in [] = None
-directive_in (b ∷ rest) = if b == 46 then directive_after_dot (skip_blanks rest) else None
+directive_in (b ∷ rest) = if b == dot then directive_after_dot (skip_blanks rest) else None
 
--- the marks that make a dependency if they are outside references: `:` (58) and `!` (33)
+-- the marks that make a dependency if they are outside references: `:` and `!`
 abbrev pub is_mark : ℕ → Bool
-is_mark b = b == 58 || b == 33
+is_mark b = b == colon || b == bang
 
--- the signs that belong to the operator if they come directly before the `=`: `?` (63), `+` (43), `:` and
+-- the signs that belong to the operator if they come directly before the `=`: `?`, `+`, `:` and
 -- `!`
-abbrev pub is_sign : ℕ → Bool
-is_sign b = b == 63 || b == 43 || is_mark b
+abbrev pub is_operator_sign : ℕ → Bool
+is_operator_sign b = b == question_mark || b == plus_sign || is_mark b
 
 -- the operator of a `=` after a byte
 abbrev pub operator_of : ℕ → Operator
 operator_of b =
-    if b == 63 then operators.Default
-    else if b == 43 then operators.Append
-    else if b == 58 then operators.Expand
-    else if b == 33 then operators.Shell
+    if b == question_mark then operators.Default
+    else if b == plus_sign then operators.Append
+    else if b == colon then operators.Expand
+    else if b == bang then operators.Shell
     else operators.Set
 
 -- the byte before the `=` at an index; if the `=` comes first, the `=` itself, which isn't a sign
@@ -100,7 +101,7 @@ in_front text at = slice_index text (at - 1)
 
 -- the place where an operator begins whose `=` is at an index
 abbrev pub operator_start : List ℕ → ℕ → ℕ
-operator_start text at = if is_sign (in_front text at) then at - 1 else at
+operator_start text at = if is_operator_sign (in_front text at) then at - 1 else at
 
 -- a word: at least one byte, and no blank
 abbrev pub is_word : List ℕ → Bool
@@ -116,9 +117,9 @@ assignment_at text at =
     then Some (AssignmentLine (operator_of (in_front text at)) name (skip_blanks (drop (at + 1) text)))
     else None
 
--- the assignment that a line is: that of its first `=` (61) outside references
+-- the assignment that a line is: that of its first `=` outside references
 abbrev pub assignment_in : List ℕ → Option TextLineKind
-assignment_in text = option_and_then (assignment_at text) (position (λ b. b == 61) (outside text))
+assignment_in text = option_and_then (assignment_at text) (position (λ b. b == equals_sign) (outside text))
 
 -- the kind of a line: an assignment if it is one; else a dependency if it has a mark outside references;
 -- else bad

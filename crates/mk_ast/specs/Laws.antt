@@ -3,10 +3,10 @@ use Rattle.std.specs.Prelude.{◌≡◌, ℕ, List, Result}
 use Rattle.mk_text.specs.Lines.{LogicalLine}
 use Rattle.mk_ast.specs.declared.nodes.TheConstants.{BLOCKS}
 use Rattle.mk_ast.specs.Trees.{Block, block_parts}
-use Rattle.mk_ast.specs.Reading.{Reads}
+use Rattle.mk_ast.specs.Reader.{Reads}
 use Rattle.mk_ast.specs.Blocks.{blocks_of}
-use Rattle.mk_ast.specs.declared.parsing.ParseFault.{ParseFault}
-use Rattle.mk_ast.specs.Parsing.{IsParse, parsed}
+use Rattle.mk_ast.specs.declared.parser.ParseFault.{ParseFault}
+use Rattle.mk_ast.specs.Parser.{IsParse, parsed}
 
 -- the reading in one pass is a reading
 abbrev pub BlocksAreRead : Type 0

@@ -1,10 +1,10 @@
 pub mod Kinds
 pub mod Parts
 pub mod Trees
-pub mod Reading
+pub mod Reader
 pub mod Blocks
 pub mod Views
-pub mod Parsing
+pub mod Parser
 pub mod Laws
 pub mod FrameParts
 pub mod ReaderViews

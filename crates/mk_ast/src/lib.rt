@@ -1,17 +1,17 @@
 //! The kinds of the lines of a makefile, and the tree of its blocks.
 #![tactic(auto)]
 
-mod assigning;
+mod assignments;
 mod directives;
 mod kinds;
 mod laws;
 mod line_kinds;
 mod nodes;
-mod parsing;
+mod parser;
 mod parts;
 mod reader;
 
-pub use assigning::is_word;
+pub use assignments::is_word;
 pub use kinds::{Directive, LineKind, Operator};
 pub use laws::{
     blocks_are_read, blocks_nest_64_deep, nothing_else_is_parsed, nothing_else_is_read,
@@ -19,4 +19,4 @@ pub use laws::{
 };
 pub use line_kinds::{line_kind, plain_kind};
 pub use nodes::{BLOCKS, Block, Branch, Branches, Makefile, Node};
-pub use parsing::{ParseError, ParseFault, parse};
+pub use parser::{ParseError, ParseFault, parse};

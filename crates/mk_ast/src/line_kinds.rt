@@ -2,7 +2,7 @@
 ghost use Rattle.std.specs.Prelude.{◌≡◌, IfOk};
 ghost use Rattle.mk_ast.specs.Kinds.{shown_kind, line_kind, plain_kind};
 
-use crate::assigning::{assignment_in, has_mark};
+use crate::assignments::{assignment_in, has_mark};
 use crate::directives::directive_in;
 use crate::kinds::LineKind;
 use mk_ref::outside;

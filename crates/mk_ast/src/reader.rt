@@ -1,17 +1,17 @@
 //! The lines of a makefile put into blocks, one after another.
-ghost use Rattle.std.specs.Prelude.{◌≡◌, List, map, Some, option_map, IfOk};
+ghost use Rattle.std.specs.Prelude.{◌≡◌};
 ghost use Rattle.mk_ast.specs.Parts.{part_of};
-ghost use Rattle.mk_ast.specs.FrameParts.{inner_part, shown_part};
-ghost use Rattle.mk_ast.specs.declared.parsing.ParseError.TheVariants as errors;
-ghost use Rattle.mk_ast.specs.Trees.{LineTree, ChoiceTree};
-ghost use Rattle.mk_ast.specs.Blocks.{Open, add, branches_from, last_branch, content_of, part_effect, go_on, begin, step};
-ghost use Rattle.mk_ast.specs.Blocks.{whole_block, start_state};
-ghost use Rattle.mk_ast.specs.Views.{block_of, branch_of, tree_of};
-ghost use Rattle.mk_ast.specs.Parsing.{Answers, block_fault, with_kind};
-ghost use Rattle.mk_ast.specs.ReaderViews.{open_of, state_of, stage_of, shown_content, state_after, Steps, HasEffect};
+ghost use Rattle.mk_ast.specs.FrameParts.{shown_part};
+ghost use Rattle.mk_ast.specs.declared.parser.ParseError.TheVariants as errors;
+ghost use Rattle.mk_ast.specs.Blocks.{begin, step};
+ghost use Rattle.mk_ast.specs.Blocks.{start_state};
+ghost use Rattle.mk_ast.specs.Parser.{block_fault};
+ghost use Rattle.mk_ast.specs.ReaderViews.{state_of_reader, stage_of, Steps};
+ghost use Rattle.mk_ast.specs.ReaderViews.{EndsContent, HasInnerEffect, MakesChoice, AddsNode, AddsPlainLine};
+ghost use Rattle.mk_ast.specs.ReaderViews.{GoesOnWith, AnswersWhole};
 
 use crate::nodes::{BLOCKS, Block, Branch, Makefile, Node};
-use crate::parsing::{ParseError, ParseFault};
+use crate::parser::{ParseError, ParseFault};
 use crate::parts::{FramePart, InnerPart, part_of};
 use mk_base::FaultKind;
 use mk_text::Logical;
@@ -90,8 +90,7 @@ enum PartEffect {
 impl Progress {
     /// What the block is if it ends; `body` is what follows its last part.
     fn content(self, alloc: Global, body: Block) -> Result<Content, AllocError>
-        ensures { IfOk result (λ content. shown_content content
-            ≡ content_of (stage_of self) (block_of body.value.items)) }
+        ensures { EndsContent result self body.value.items }
     {
         match self {
             Progress::If => {
@@ -117,9 +116,7 @@ impl OpenBlock {
         part: InnerPart,
         line: Logical,
     ) -> Result<PartEffect, ParseError>
-        ensures { HasEffect result line.line (open_of self)
-            (part_effect self.head (stage_of self.progress) (block_of body.value.items)
-            (inner_part part line)) }
+        ensures { HasInnerEffect result self body.value.items part line }
     {
         let OpenBlock {
             before,
@@ -152,10 +149,7 @@ fn choice(
     ended: EndedBranches,
     otherwise: Option<Block>,
 ) -> Result<Node, AllocError>
-    ensures { IfOk result (λ node. tree_of node
-        ≡ ChoiceTree head (block_of ended.first.value.items)
-        (branches_from (map branch_of ended.later.items)
-        (last_branch (option_map (λ block. block_of block.value.items) otherwise)))) }
+    ensures { MakesChoice result head ended otherwise }
 {
     Ok(Node::Choice {
         head,
@@ -167,8 +161,7 @@ fn choice(
 
 /// The effect of a part that ends a block as this node, after those before it.
 fn ending(before: Vec<Node>, node: Node) -> Result<PartEffect, AllocError>
-    ensures { IfOk result (λ effect. (stack : List Open) → state_after effect stack
-        ≡ record { current = add (block_of before.items) (tree_of node); stack = stack }) }
+    ensures { AddsNode result before.items node }
 {
     let mut nodes = before;
     nodes.push(node)?;
@@ -178,7 +171,7 @@ fn ending(before: Vec<Node>, node: Node) -> Result<PartEffect, AllocError>
 impl Reader {
     /// Nothing is read yet.
     pub(crate) fn new(alloc: Global) -> Reader
-        ensures { state_of result ≡ start_state }
+        ensures { state_of_reader result ≡ start_state }
     {
         Reader {
             current: Vec::new(alloc),
@@ -189,7 +182,7 @@ impl Reader {
     /// The reader after one more line.
     #[tactic(auto, unfolding(crate::specs::Blocks::step))]
     pub(crate) fn step(self, alloc: Global, line: Logical) -> Result<Reader, ParseError>
-        ensures { Steps result line.line (step BLOCKS (state_of self) (part_of line)) }
+        ensures { Steps result line.line (step BLOCKS (state_of_reader self) (part_of line)) }
     {
         match part_of(&line) {
             FramePart::Plain => self.add(line),
@@ -201,11 +194,7 @@ impl Reader {
 
     /// The reader after a line that frames no block.
     fn add(self, line: Logical) -> Result<Reader, ParseError>
-        ensures { Steps result line.line
-            (Some (record {
-              current = add (state_of self).current (LineTree line);
-              stack = (state_of self).stack;
-            })) }
+        ensures { AddsPlainLine result self line }
     {
         let Reader { mut current, stack } = self;
         current.push(Node::Line(line))?;
@@ -214,7 +203,7 @@ impl Reader {
 
     /// The reader after a line that opens a block.
     fn begin(self, alloc: Global, head: Logical, progress: Progress) -> Result<Reader, ParseError>
-        ensures { Steps result head.line (begin BLOCKS (state_of self) head (stage_of progress)) }
+        ensures { Steps result head.line (begin BLOCKS (state_of_reader self) head (stage_of progress)) }
     {
         let Reader { current, mut stack } = self;
         if stack.len() >= BLOCKS {
@@ -233,8 +222,7 @@ impl Reader {
 
     /// The reader after a part that divides or closes the innermost open block.
     fn go_on(self, alloc: Global, part: InnerPart, line: Logical) -> Result<Reader, ParseError>
-        ensures { Steps result line.line
-            (go_on (state_of self).stack (state_of self).current (inner_part part line)) }
+        ensures { GoesOnWith result self part line }
     {
         let Reader { current, mut stack } = self;
         let Some(innermost) = stack.pop() else {
@@ -254,8 +242,7 @@ impl Reader {
 
     /// The tree of all that is read.
     pub(crate) fn finish(self, alloc: Global) -> Result<Makefile, ParseError>
-        ensures { Answers result (λ answer. answer
-            ≡ with_kind (whole_block (state_of self).current (state_of self).stack)) }
+        ensures { AnswersWhole result self }
     {
         let Reader { current, mut stack } = self;
         match stack.pop() {

@@ -1,8 +1,8 @@
 use Rattle.std.specs.Prelude.{◌≡◌, ◌⊎◌, ℕ, List}
-use Rattle.mk_base.specs.declared.stopping.PureStop.{PureStop}
-use Rattle.mk_base.specs.declared.stopping.PureStop.TheVariants as pure
-use Rattle.mk_base.specs.declared.stopping.Stop.{Stop}
-use Rattle.mk_base.specs.declared.stopping.Stop.TheVariants as stops
+use Rattle.mk_base.specs.declared.stops.PureStop.{PureStop}
+use Rattle.mk_base.specs.declared.stops.PureStop.TheVariants as pure
+use Rattle.mk_base.specs.declared.stops.Stop.{Stop}
+use Rattle.mk_base.specs.declared.stops.Stop.TheVariants as stops
 use Rattle.mk_base.specs.declared.faults.FaultKind.{FaultKind}
 use Rattle.mk_base.specs.FaultAt.{FaultAt, fault_at}
 use Rattle.refusals.specs.Refused.{refused}

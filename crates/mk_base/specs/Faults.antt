@@ -3,22 +3,22 @@ use Rattle.mk_base.specs.declared.faults.FaultKind.{FaultKind}
 use Rattle.mk_base.specs.declared.faults.FaultKind.TheVariants as kinds
 
 -- the number by which replies name a kind of fault
-abbrev pub number_of : FaultKind → ℕ
-number_of kinds.Line = 1
-number_of kinds.Block = 2
-number_of kinds.Condition = 3
-number_of kinds.For = 4
-number_of kinds.Include = 5
-number_of kinds.IncludeDepth = 6
-number_of kinds.Reference = 7
-number_of kinds.Modifier = 8
-number_of kinds.Recursive = 9
-number_of kinds.Depth = 10
-number_of kinds.Budget = 11
-number_of kinds.Length = 12
-number_of kinds.Shell = 13
-number_of kinds.Utf8 = 14
-number_of kinds.Flavor = 15
-number_of kinds.NoName = 16
-number_of kinds.BadName = 17
-number_of kinds.Questions = 18
+abbrev pub fault_number : FaultKind → ℕ
+fault_number kinds.Line = 1
+fault_number kinds.Block = 2
+fault_number kinds.Condition = 3
+fault_number kinds.For = 4
+fault_number kinds.Include = 5
+fault_number kinds.IncludeDepth = 6
+fault_number kinds.Reference = 7
+fault_number kinds.Modifier = 8
+fault_number kinds.Recursive = 9
+fault_number kinds.Depth = 10
+fault_number kinds.Budget = 11
+fault_number kinds.Length = 12
+fault_number kinds.Shell = 13
+fault_number kinds.Utf8 = 14
+fault_number kinds.Flavor = 15
+fault_number kinds.NoName = 16
+fault_number kinds.BadName = 17
+fault_number kinds.Questions = 18

@@ -2,6 +2,6 @@ pub mod Faults
 pub mod FaultAt
 pub mod Meter
 pub mod Outcome
-pub mod Stopping
+pub mod Stops
 pub mod Blame
 pub mod Each

@@ -2,7 +2,7 @@ use Rattle.std.specs.Prelude.{◌≡◌, ◌≤◌, ◌+◌, ℕ, nat_lt, if◌t
 use Rattle.std.proofs.Common.{◌∙◌, arith}
 use Rattle.mk_base.specs.declared.faults.FaultKind.{FaultKind}
 use Rattle.mk_base.specs.declared.faults.FaultKind.TheVariants as kinds
-use Rattle.mk_base.specs.declared.metering.TheConstants.{QUESTIONS}
+use Rattle.mk_base.specs.declared.budget.TheConstants.{QUESTIONS}
 use Rattle.mk_base.specs.Outcome.{Work}
 
 -- what a budget shows: how many units may be spent, how many are spent, and how many questions were asked

@@ -1,5 +1,5 @@
 ghost use Rattle.std.specs.Prelude.{◌≡◌, IfOk};
-ghost use Rattle.mk_base.specs.Faults.{number_of};
+ghost use Rattle.mk_base.specs.Faults.{fault_number};
 ghost use Rattle.mk_base.specs.FaultAt.{fault_at};
 
 use std::alloc::{AllocError, Global};
@@ -71,7 +71,7 @@ pub enum FaultKind {
 impl FaultKind {
     /// The number of the kind, from 1 to 18, as replies show it.
     pub fn number(self) -> u8
-        ensures { result ≡ number_of self }
+        ensures { result ≡ fault_number self }
     {
         self as u8
     }

@@ -2,12 +2,12 @@
 //! budget of an evaluation, and the types by which work stops.
 #![tactic(auto)]
 
+mod budget;
 mod faults;
 mod laws;
-mod metering;
-mod stopping;
+mod stops;
 
+pub use budget::{Budget, QUESTIONS, UNITS};
 pub use faults::{Fault, FaultKind};
 pub use laws::budget_limits;
-pub use metering::{Budget, QUESTIONS, UNITS};
-pub use stopping::{PureStop, Stop};
+pub use stops::{PureStop, Stop};

@@ -10,23 +10,23 @@ use Rattle.mk_base.specs.declared.faults.FaultKind.TheVariants as kinds
 use Rattle.mk_base.specs.Meter.{Meter}
 use Rattle.mk_base.specs.Outcome.{Work, give, fail, ◌>>=◌}
 use Rattle.mk_text.specs.Words.{words_of, span_text}
-use Rattle.mk_ref.specs.declared.cutting.Piece.{Piece}
-use Rattle.mk_ref.specs.declared.cutting.Piece.TheVariants as pieces
+use Rattle.mk_ref.specs.declared.piece.Piece.{Piece}
+use Rattle.mk_ref.specs.declared.piece.Piece.TheVariants as pieces
 use Rattle.mk_ref.specs.Units.{units_of, left_of}
 use Rattle.mk_ref.specs.Pieces.{TextPiece, LiteralPiece, EscapedDollarPiece, ReferencePiece, pieces_of}
 use Rattle.mk_env.specs.Texts.{Variables, text_in}
-use Rattle.mk_env.specs.Expansion.{expand, inside}
+use Rattle.mk_env.specs.Expansion.{expand, inside_meaning}
 use Rattle.mk_paths.specs.declared.file_name.NameFault.{NameFault}
 use Rattle.mk_paths.specs.FileName.{name_under, directory_of, resolved}
 use Rattle.mk_paths.specs.World.{FileMap}
-use Rattle.mk_files.specs.Asking.{Account, quietly, ask_has}
+use Rattle.mk_files.specs.Questions.{Account, quietly, ask_has}
 use Rattle.cond_grammar.specs.declared.tokens.Call.{Call}
 use Rattle.cond_grammar.specs.declared.tokens.Call.TheVariants.{Defined, Empty, Exists, Make, Target}
 use Rattle.cond_grammar.specs.declared.tokens.Comparison.{Comparison}
 use Rattle.cond_grammar.specs.declared.tokens.Comparison.TheVariants as signs
 use Rattle.cond_grammar.specs.declared.tokens.Side.{Side}
 use Rattle.cond_grammar.specs.declared.tokens.Side.TheVariants.{Quoted, Bare}
-use Rattle.mk_cond.specs.Numbers.{number_of, numbers_compare, isnt_zero}
+use Rattle.mk_cond.specs.Numbers.{hex_or_decimal, numbers_compare, isnt_zero}
 use Rattle.mk_cond.specs.declared.setting.Setting.{Setting}
 
 -- the surroundings of a condition: the variables, the files, the makefile's name, the condition's own text,
@@ -39,8 +39,8 @@ pub record Surroundings : Type 0 where
   pub word : Call
 
 -- the surroundings that the code's setting gives, among these files
-abbrev pub among : Setting → FileMap → Surroundings
-among setting files =
+abbrev pub surroundings_of : Setting → FileMap → Surroundings
+surroundings_of setting files =
     record {
       variables = setting.variables.now;
       files = files;
@@ -54,27 +54,27 @@ abbrev pub is_defined : Variables → List ℕ → Work Meter FaultKind Bool
 is_defined variables argument = expand variables argument >>= λ name. give (is_some (text_in variables name))
 
 -- `empty(N:M)`: what a reference to N with these modifiers means has no word
-abbrev pub is_empty : Variables → List ℕ → Work Meter FaultKind Bool
-is_empty variables argument = inside variables argument >>= λ value. give (length (words_of value) == 0)
+abbrev pub has_no_word : Variables → List ℕ → Work Meter FaultKind Bool
+has_no_word variables argument = inside_meaning variables argument >>= λ value. give (length (words_of value) == 0)
 
 -- the question about a file; if a text names none, the file isn't there, and nothing is asked
-abbrev pub is_there : FileMap → Result (List ℕ) NameFault → Work Account FaultKind Bool
-is_there files (Ok name) = ask_has files name
-is_there files (Err fault) = give false
+abbrev pub ask_if_there : FileMap → Result (List ℕ) NameFault → Work Account FaultKind Bool
+ask_if_there files (Ok name) = ask_has files name
+ask_if_there files (Err fault) = give false
 
 -- `exists(F)`: the file F, expanded, is there; a name that isn't absolute is under the makefile's directory
 abbrev pub exists : Surroundings → List ℕ → Work Account FaultKind Bool
 exists s argument =
     quietly (expand s.variables argument)
-    >>= λ file. is_there s.files (resolved (name_under (directory_of s.makefile) file))
+    >>= λ file. ask_if_there s.files (resolved (name_under (directory_of s.makefile) file))
 
 -- what a call asks of its argument; no target is asked for or defined, and then the argument isn't looked at
-abbrev pub called : Surroundings → Call → List ℕ → Work Account FaultKind Bool
-called s Defined argument = quietly (is_defined s.variables argument)
-called s Empty argument = quietly (is_empty s.variables argument)
-called s Exists argument = exists s argument
-called s Make argument = give false
-called s Target argument = give false
+abbrev pub call_holds : Surroundings → Call → List ℕ → Work Account FaultKind Bool
+call_holds s Defined argument = quietly (is_defined s.variables argument)
+call_holds s Empty argument = quietly (has_no_word s.variables argument)
+call_holds s Exists argument = exists s argument
+call_holds s Make argument = give false
+call_holds s Target argument = give false
 
 -- the text of a side, as it is written
 abbrev pub side_source : List ℕ → Side → List ℕ
@@ -84,7 +84,7 @@ side_source text (Bare span) = span_text text span
 -- the number that a text is; an empty one is 0
 abbrev pub number_or_zero : List ℕ → Option ℤ
 number_or_zero [] = Some (pos 0)
-number_or_zero (b ∷ rest) = number_of (b ∷ rest)
+number_or_zero (b ∷ rest) = hex_or_decimal (b ∷ rest)
 
 -- the number that an expanded side is: a quoted one is text
 abbrev pub side_number : Side → List ℕ → Option ℤ
@@ -121,7 +121,7 @@ has_text variables source = expand variables source >>= λ found. give (not (len
 -- a value alone holds if it is neither empty nor the number 0
 abbrev pub is_true : List ℕ → Bool
 is_true [] = false
-is_true (b ∷ rest) = isnt_zero (number_of (b ∷ rest))
+is_true (b ∷ rest) = isnt_zero (hex_or_decimal (b ∷ rest))
 
 abbrev pub has_true : Variables → List ℕ → Work Meter FaultKind Bool
 has_true variables source = expand variables source >>= λ found. give (is_true found)
@@ -148,14 +148,14 @@ has_reference text = refers (left_of text) (pieces_of (units_of text))
 -- a word alone, without a reference: a number holds unless it is 0, and any other word is the argument of
 -- what the directive asks
 abbrev pub lone : Surroundings → List ℕ → Option ℤ → Work Account FaultKind Bool
-lone s word None = called s s.word word
+lone s word None = call_holds s s.word word
 lone s word (Some number) = give (isnt_zero (Some number))
 
 -- a side without quotes alone
 abbrev pub bare : Surroundings → List ℕ → Work Account FaultKind Bool
-bare s word = if has_reference word then quietly (has_true s.variables word) else lone s word (number_of word)
+bare s word = if has_reference word then quietly (has_true s.variables word) else lone s word (hex_or_decimal word)
 
 -- a side alone
-abbrev pub alone : Surroundings → Side → Work Account FaultKind Bool
-alone s (Quoted span) = quietly (has_text s.variables (span_text s.text span))
-alone s (Bare span) = bare s (span_text s.text span)
+abbrev pub side_alone : Surroundings → Side → Work Account FaultKind Bool
+side_alone s (Quoted span) = quietly (has_text s.variables (span_text s.text span))
+side_alone s (Bare span) = bare s (span_text s.text span)

@@ -3,3 +3,4 @@ pub mod Numbers
 pub mod Leaves
 pub mod Truths
 pub mod Truth
+pub mod Tasks

@@ -5,6 +5,7 @@ use Rattle.std.specs.List.{list_all, starts_with}
 use Rattle.std.specs.Char.{is_digit}
 use Rattle.std.specs.Ordering.{int_eq}
 use Rattle.std.specs.Str.Parse.{digits_value}
+use Rattle.general_facts.specs.Ascii.{plus_sign, dash}
 use Rattle.cond_grammar.specs.declared.tokens.Comparison.{Comparison}
 use Rattle.cond_grammar.specs.declared.tokens.Comparison.TheVariants as signs
 
@@ -16,17 +17,17 @@ is_numeral radix most digits = nat_le 1 (length digits) && nat_le (length digits
 abbrev pub numeral : ℕ → ℕ → List ℕ → Option ℕ
 numeral radix most digits = if is_numeral radix most digits then Some (digits_value radix digits) else None
 
--- a decimal number: `-` (45), `+` (43) or no sign, and 1 to 18 digits
+-- a decimal number: `-`, `+` or no sign, and 1 to 18 digits
 abbrev pub decimal : List ℕ → Option ℤ
 decimal [] = None
 decimal (b ∷ rest) =
-    if b == 45 then option_map (λ n. neg_ℤ (pos n)) (numeral 10 18 rest)
-    else if b == 43 then option_map pos (numeral 10 18 rest)
+    if b == dash then option_map (λ n. neg_ℤ (pos n)) (numeral 10 18 rest)
+    else if b == plus_sign then option_map pos (numeral 10 18 rest)
     else option_map pos (numeral 10 18 (b ∷ rest))
 
 -- the number that a text is: `0x` and 1 to 15 hexadecimal digits, or a decimal number
-unfoldable pub number_of : List ℕ → Option ℤ
-number_of text = if starts_with nat_eq text (codes "0x") then option_map pos (numeral 16 15 (drop 2 text)) else decimal text
+unfoldable pub hex_or_decimal : List ℕ → Option ℤ
+hex_or_decimal text = if starts_with nat_eq text (codes "0x") then option_map pos (numeral 16 15 (drop 2 text)) else decimal text
 
 -- whether this comparison holds between two numbers
 abbrev pub numbers_compare : Comparison → ℤ → ℤ → Bool

@@ -3,10 +3,10 @@ use Rattle.std.specs.Prelude.{Bool, true, false, not, if◌then◌else◌}
 use Rattle.mk_base.specs.declared.faults.FaultKind.{FaultKind}
 use Rattle.mk_base.specs.Outcome.{Work, give, ◌>>=◌}
 use Rattle.mk_text.specs.Words.{span_text}
-use Rattle.mk_files.specs.Asking.{Account, quietly}
+use Rattle.mk_files.specs.Questions.{Account, quietly}
 use Rattle.cond_grammar.specs.Trees.{OrTree, OrOf, LaterAnds, NoAnds, MoreAnds, AndTree, AndOf, LaterNots, NoNots}
 use Rattle.cond_grammar.specs.Trees.{MoreNots, NotTree, Negated, Grouped, Called, Compared, Alone}
-use Rattle.mk_cond.specs.Leaves.{Surroundings, called, compared, alone}
+use Rattle.mk_cond.specs.Leaves.{Surroundings, call_holds, compared, side_alone}
 
 -- `||` looks at its next operand if none held so far, and `&&` if all did
 abbrev mutual
@@ -27,6 +27,6 @@ abbrev mutual
   pub not_truth : Surroundings → NotTree → Work Account FaultKind Bool
   not_truth s (Negated term) = not_truth s term >>= λ held. give (not held)
   not_truth s (Grouped or) = or_truth s or
-  not_truth s (Called call argument) = called s call (span_text s.text argument)
+  not_truth s (Called call argument) = call_holds s call (span_text s.text argument)
   not_truth s (Compared left comparison right) = quietly (compared s.variables s.text left comparison right)
-  not_truth s (Alone side) = alone s side
+  not_truth s (Alone side) = side_alone s side

@@ -1,9 +1,6 @@
 //! Calls in conditions.
 ghost use Rattle.mk_base.specs.Meter.{IsLater};
-ghost use Rattle.mk_base.specs.Stopping.{GivesPurely};
-ghost use Rattle.mk_files.specs.Working.{DoesWork};
-ghost use Rattle.mk_cond.specs.Leaves as leaves;
-ghost use Rattle.mk_cond.specs.Leaves.{among};
+ghost use Rattle.mk_cond.specs.Tasks.{TellsCall, TellsExists, TellsDefined, TellsEmpty};
 
 use crate::setting::Setting;
 use cond_grammar::Call;
@@ -24,9 +21,8 @@ pub(crate) fn call_truth<F: Names>(
     files: &mut F,
     budget: &mut Budget,
 ) -> Result<bool, Stop<FaultKind>>
-    ensures { DoesWork F.fails_with (λ held. held) result
-        (leaves.called (among setting.entry (F.view files.old).files) call argument.now)
-        (budget.old, F.view files.old) (budget.new, F.view files.new) }
+    ensures { TellsCall F.Names setting.entry call argument.now result
+        budget.old files.old budget.new files.new }
 {
     match call {
         Call::Defined => Ok(is_defined(alloc, setting.variables, argument, budget)?),
@@ -44,8 +40,7 @@ fn is_defined(
     budget: &mut Budget,
 ) -> Result<bool, PureStop<FaultKind>>
     ensures later { IsLater budget.old budget.new }
-    ensures gives { GivesPurely (λ held. held) result budget.new
-        (leaves.is_defined variables.now argument.now budget.old) }
+    ensures gives { TellsDefined result variables.now argument.now budget.old budget.new }
 {
     let name = expand(alloc, variables, argument, budget)?;
     Ok(variables.defined(name.as_str()))
@@ -59,8 +54,7 @@ fn is_empty(
     budget: &mut Budget,
 ) -> Result<bool, PureStop<FaultKind>>
     ensures later { IsLater budget.old budget.new }
-    ensures gives { GivesPurely (λ held. held) result budget.new
-        (leaves.is_empty variables.now argument.now budget.old) }
+    ensures gives { TellsEmpty result variables.now argument.now budget.old budget.new }
 {
     let value = expand_inside(alloc, variables, argument, budget)?;
     Ok(words(alloc, value.as_str())?.is_empty())
@@ -74,9 +68,8 @@ fn exists<F: Names>(
     files: &mut F,
     budget: &mut Budget,
 ) -> Result<bool, Stop<FaultKind>>
-    ensures { DoesWork F.fails_with (λ held. held) result
-        (leaves.exists (among setting.entry (F.view files.old).files) argument.now)
-        (budget.old, F.view files.old) (budget.new, F.view files.new) }
+    ensures { TellsExists F.Names setting.entry argument.now result
+        budget.old files.old budget.new files.new }
 {
     let file = expand(alloc, setting.variables, argument, budget)?;
     match Name::under(alloc, setting.makefile.directory(), file.as_str()) {

@@ -2,14 +2,14 @@
 #![tactic(auto)]
 
 mod calls;
-mod comparing;
+mod comparisons;
 mod forms;
-mod judging;
 mod numbers;
 mod setting;
 mod sides;
 mod trees;
+mod truth_values;
 
 pub use forms::Form;
-pub use judging::{directive_truth, truth};
 pub use setting::Setting;
+pub use truth_values::{directive_truth, truth};

@@ -3,16 +3,16 @@ ghost use Rattle.std.specs.Prelude.{◌≡◌, ◌<◌, ◌≤◌, ◌^◌, pos,
 ghost use Rattle.std.specs.Option.{ForSome};
 ghost use Rattle.std.specs.List.{list_all};
 ghost use Rattle.std.specs.Char.{is_digit};
-ghost use Rattle.mk_cond.specs.Numbers.{is_numeral, numeral, decimal, number_of, numbers_compare, isnt_zero};
+ghost use Rattle.mk_cond.specs.Numbers.{is_numeral, numeral, decimal, hex_or_decimal, numbers_compare, isnt_zero};
 
 use cond_grammar::Comparison;
 use std::str;
 
 /// The number that a text is: `0x` and 1 to 15 hexadecimal digits, or `-`, `+` or no sign and 1 to 18
 /// decimal digits.
-#[tactic(auto, unfolding(crate::specs::Numbers::number_of))]
+#[tactic(auto, unfolding(crate::specs::Numbers::hex_or_decimal))]
 pub(crate) fn number_of(text: &[u8]) -> Option<i64>
-    ensures { result ≡ number_of text.now }
+    ensures { result ≡ hex_or_decimal text.now }
 {
     if text.starts_with(b"0x".as_slice()) {
         positive(numeral(&text[2..], 16, 15))

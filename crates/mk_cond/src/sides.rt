@@ -1,12 +1,11 @@
 //! Sides of conditions that are alone, without a comparison.
 ghost use Rattle.std.specs.Prelude.{◌≡◌, IfOk};
 ghost use Rattle.mk_base.specs.Meter.{IsLater};
-ghost use Rattle.mk_base.specs.Stopping.{GivesPurely};
 ghost use Rattle.std.specs.List.{list_any};
-ghost use Rattle.mk_files.specs.Working.{DoesWork};
 ghost use Rattle.cond_grammar.specs.Placed.{IsSideIn};
 ghost use Rattle.mk_cond.specs.Leaves as leaves;
-ghost use Rattle.mk_cond.specs.Leaves.{among, is_reference_piece};
+ghost use Rattle.mk_cond.specs.Leaves.{is_reference_piece};
+ghost use Rattle.mk_cond.specs.Tasks.{DoesSide, DoesWord, TellsHasText, TellsHasTrue};
 
 use crate::calls::call_truth;
 use crate::numbers::{isnt_zero, number_of};
@@ -27,9 +26,7 @@ pub(crate) fn side_truth<F: Names>(
     budget: &mut Budget,
 ) -> Result<bool, Stop<FaultKind>>
     requires { IsSideIn setting.text.now side }
-    ensures { DoesWork F.fails_with (λ held. held) result
-        (leaves.alone (among setting.entry (F.view files.old).files) side)
-        (budget.old, F.view files.old) (budget.new, F.view files.new) }
+    ensures { DoesSide F.Names setting.entry side result budget.old files.old budget.new files.new }
 {
     match side {
         Side::Quoted(span) => {
@@ -47,9 +44,7 @@ fn word_truth<F: Names>(
     files: &mut F,
     budget: &mut Budget,
 ) -> Result<bool, Stop<FaultKind>>
-    ensures { DoesWork F.fails_with (λ held. held) result
-        (leaves.bare (among setting.entry (F.view files.old).files) word.now)
-        (budget.old, F.view files.old) (budget.new, F.view files.new) }
+    ensures { DoesWord F.Names setting.entry word.now result budget.old files.old budget.new files.new }
 {
     if has_reference(alloc, word)? {
         return Ok(has_true(alloc, setting.variables, word, budget)?);
@@ -68,8 +63,7 @@ fn has_text(
     budget: &mut Budget,
 ) -> Result<bool, PureStop<FaultKind>>
     ensures later { IsLater budget.old budget.new }
-    ensures gives { GivesPurely (λ held. held) result budget.new
-        (leaves.has_text variables.now source.now budget.old) }
+    ensures gives { TellsHasText result variables.now source.now budget.old budget.new }
 {
     let found = expand(alloc, variables, source, budget)?;
     Ok(!found.is_empty())
@@ -83,8 +77,7 @@ fn has_true(
     budget: &mut Budget,
 ) -> Result<bool, PureStop<FaultKind>>
     ensures later { IsLater budget.old budget.new }
-    ensures gives { GivesPurely (λ held. held) result budget.new
-        (leaves.has_true variables.now source.now budget.old) }
+    ensures gives { TellsHasTrue result variables.now source.now budget.old budget.new }
 {
     let found = expand(alloc, variables, source, budget)?;
     Ok(is_true(found.as_bytes()))

@@ -1,14 +1,12 @@
 //! The truth of the tree of a condition.
 ghost use Rattle.std.specs.Prelude.{All};
-ghost use Rattle.mk_files.specs.Working.{DoesWork};
 ghost use Rattle.cond_grammar.specs.Placed.{IsTokenIn};
 ghost use Rattle.cond_grammar.specs.Trees.{or_tokens, and_tokens, not_tokens};
 ghost use Rattle.cond_grammar.specs.Views.{condition_tree, conjunction_tree, term_tree};
-ghost use Rattle.mk_cond.specs.Leaves.{among};
-ghost use Rattle.mk_cond.specs.Truths.{or_truth, and_truth, not_truth};
+ghost use Rattle.mk_cond.specs.Tasks.{TellsAny, TellsAll, DoesTerm};
 
 use crate::calls::call_truth;
-use crate::comparing::compared;
+use crate::comparisons::compared;
 use crate::setting::Setting;
 use crate::sides::side_truth;
 use cond_grammar::{Condition, Conjunction, Term};
@@ -26,9 +24,8 @@ pub(crate) fn condition_truth<F: Names>(
     budget: &mut Budget,
 ) -> Result<bool, Stop<FaultKind>>
     requires { All (IsTokenIn setting.text.now) (or_tokens (condition_tree condition.now)) }
-    ensures { DoesWork F.fails_with (λ held. held) result
-        (or_truth (among setting.entry (F.view files.old).files) (condition_tree condition.now))
-        (budget.old, F.view files.old) (budget.new, F.view files.new) }
+    ensures { TellsAny F.Names setting.entry (condition_tree condition.now) result
+        budget.old files.old budget.new files.new }
 {
     let mut held = conjunction_truth(alloc, setting, &condition.first, files, budget)?;
     for conjunction in &condition.more {
@@ -50,10 +47,8 @@ fn conjunction_truth<F: Names>(
     budget: &mut Budget,
 ) -> Result<bool, Stop<FaultKind>>
     requires { All (IsTokenIn setting.text.now) (and_tokens (conjunction_tree conjunction.now)) }
-    ensures { DoesWork F.fails_with (λ held. held) result
-        (and_truth (among setting.entry (F.view files.old).files) (conjunction_tree
-        conjunction.now))
-        (budget.old, F.view files.old) (budget.new, F.view files.new) }
+    ensures { TellsAll F.Names setting.entry (conjunction_tree conjunction.now) result
+        budget.old files.old budget.new files.new }
 {
     let mut held = term_truth(alloc, setting, &conjunction.first, files, budget)?;
     for term in &conjunction.more {
@@ -75,9 +70,8 @@ fn term_truth<F: Names>(
     budget: &mut Budget,
 ) -> Result<bool, Stop<FaultKind>>
     requires { All (IsTokenIn setting.text.now) (not_tokens (term_tree term.now)) }
-    ensures { DoesWork F.fails_with (λ held. held) result
-        (not_truth (among setting.entry (F.view files.old).files) (term_tree term.now))
-        (budget.old, F.view files.old) (budget.new, F.view files.new) }
+    ensures { DoesTerm F.Names setting.entry (term_tree term.now) result
+        budget.old files.old budget.new files.new }
 {
     match term {
         Term::Not(turned) => {
@@ -93,15 +87,9 @@ fn term_truth<F: Names>(
             files,
             budget,
         ),
-        Term::Compare(one, comparison, other) => Ok(compared(
-            alloc,
-            setting.variables,
-            setting.text,
-            *one,
-            *comparison,
-            *other,
-            budget,
-        )?),
+        Term::Compare(one, comparison, other) => {
+            Ok(compared(alloc, setting, *one, *comparison, *other, budget)?)
+        }
         Term::Side(side) => side_truth(alloc, setting, *side, files, budget),
     }
 }

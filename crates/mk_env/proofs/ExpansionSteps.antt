@@ -3,13 +3,13 @@ use Rattle.std.proofs.Common.{◌≡◌, ◌≢◌, ◌<◌, ◌≤◌, ◌-◌,
 use Rattle.std.specs.Prelude.{◌==◌}
 use Rattle.std.specs.List.{list_any}
 use Rattle.std.proofs.lemmas.Bool.{lt-ltb, le-ltb, cases_lt}
-use Rattle.mk_base.specs.declared.stopping.PureStop.{PureStop}
-use Rattle.mk_base.specs.declared.stopping.PureStop.TheVariants as pure
+use Rattle.mk_base.specs.declared.stops.PureStop.{PureStop}
+use Rattle.mk_base.specs.declared.stops.PureStop.TheVariants as pure
 use Rattle.mk_base.specs.declared.faults.FaultKind.{FaultKind}
 use Rattle.mk_base.specs.declared.faults.FaultKind.TheVariants as kinds
 use Rattle.mk_base.specs.Meter.{Meter, pay}
 use Rattle.mk_base.specs.Outcome.{after, each, give, fail}
-use Rattle.mk_base.specs.Stopping.{StopsPurelyAt, GivesPurely}
+use Rattle.mk_base.specs.Stops.{StopsPurelyAt, GivesPurely}
 use Rattle.mk_ref.specs.Units.{units_of, left_of}
 use Rattle.mk_ref.specs.Units.{Byte as TextByte}
 use Rattle.mk_ref.proofs.PlainTexts.{cut-plain}
@@ -19,7 +19,7 @@ use Rattle.mk_mods.specs.Actions.{Symbol, Byte}
 use Rattle.mk_env.specs.declared.scope.Undefined.{Undefined}
 use Rattle.mk_env.specs.declared.scope.Undefined.TheVariants as kept
 use Rattle.mk_env.specs.Texts.{Variables}
-use Rattle.mk_env.specs.Expansion.{References, bounded, join_piece, where_whole, text_meaning, symbol_meaning, join_symbol, by_name, begin, reference}
+use Rattle.mk_env.specs.Expansion.{References, bounded, join_piece, where_whole, text_meaning, symbol_meaning, join_symbol, by_name, enter_reference, reference}
 use Rattle.mk_env.specs.Refusals.{IsUncut, IsTooLong}
 use Rattle.mk_env.proofs.Walks.{each-nothing, each-one}
 
@@ -82,10 +82,10 @@ first-name undefined_gives levels variables active written name modifiers m m' u
 
 -- a reference that is paid for means what follows the meaning of its name
 pub reference-name : (undefined_gives : Undefined) (levels : ℕ) (variables : Variables) (active : List (List ℕ)) (written name : List ℕ) (modifiers : Option (List ℕ))
-    (m m' : Meter) (unit : Unit {0}) → levels ≢ 0 → begin levels m ≡ Ok (unit, m')
+    (m m' : Meter) (unit : Unit {0}) → levels ≢ 0 → enter_reference levels m ≡ Ok (unit, m')
     → reference undefined_gives levels variables active written name modifiers m
     ≡ after (text_meaning (reference kept.Empty (levels - 1) variables active) name m') (by_name undefined_gives (reference kept.Empty (levels - 1) variables) variables active written modifiers)
-unfolding begin
+unfolding enter_reference
 reference-name undefined_gives zero variables active written name modifiers m m' unit some paid = absurd (some refl)
 reference-name undefined_gives (suc levels) variables active written name modifiers m m' unit some paid =
     first-name undefined_gives levels variables active written name modifiers m m' unit paid
@@ -107,8 +107,8 @@ too-deep (Err stop) = refl
 
 -- a reference that isn't paid for, or is too deep, stops there
 pub reference-unbegun : (undefined_gives : Undefined) (levels : ℕ) (variables : Variables) (active : List (List ℕ)) (written name : List ℕ) (modifiers : Option (List ℕ))
-    (m : Meter) (stop : FaultKind × Meter) → begin levels m ≡ Err stop → reference undefined_gives levels variables active written name modifiers m ≡ Err stop
-unfolding begin reference
+    (m : Meter) (stop : FaultKind × Meter) → enter_reference levels m ≡ Err stop → reference undefined_gives levels variables active written name modifiers m ≡ Err stop
+unfolding enter_reference reference
 reference-unbegun undefined_gives zero variables active written name modifiers m stop stops = too-deep (pay m) ∙ ap with-text stops
 reference-unbegun undefined_gives (suc levels) variables active written name modifiers m stop stops =
     ap (λ end. after end (λ _ m'. after (text_meaning (reference kept.Empty levels variables active) name m') (by_name undefined_gives (reference kept.Empty levels variables) variables active written modifiers))) stops

@@ -14,7 +14,7 @@ use Rattle.std.proofs.lemmas.Map.Text.{btree_map_updates_text, is_eq-slice_cmp}
 use Rattle.general_facts.specs.Maps.{same_map}
 use Rattle.general_facts.specs.Texts.{bytes_eq-sym}
 use Rattle.mk_text.specs.declared.profile.Profile.{Profile}
-use Rattle.mk_env.specs.Texts.{Variables, TextMap, bytes_of, texts_of, appended}
+use Rattle.mk_env.specs.Texts.{Variables, TextMap, entry_bytes, texts_of, appended}
 
 -- the text that a key in the order of bytes has among these entries
 abbrev pub text_at : List (String Global × String Global) → List ℕ → Option (List ℕ)
@@ -69,15 +69,15 @@ insert-held m name text held =
       | Greater ↦ λ is. refl
     ] refl)
 
-bytes_of-clones : (entries clones : List (String Global × String Global)) → AllZip (λ e f. (string_bytes f.0 ≡ string_bytes e.0) × (string_bytes f.1 ≡ string_bytes e.1)) entries clones → map bytes_of clones ≡ map bytes_of entries
-bytes_of-clones [] [] same = refl
-bytes_of-clones [] (f ∷ fs) same = absurd same
-bytes_of-clones (e ∷ es) [] same = absurd same
-bytes_of-clones (e ∷ es) (f ∷ fs) same = λ i. (same.0.0 i, same.0.1 i) ∷ bytes_of-clones es fs same.1 i
+entry_bytes-clones : (entries clones : List (String Global × String Global)) → AllZip (λ e f. (string_bytes f.0 ≡ string_bytes e.0) × (string_bytes f.1 ≡ string_bytes e.1)) entries clones → map entry_bytes clones ≡ map entry_bytes entries
+entry_bytes-clones [] [] same = refl
+entry_bytes-clones [] (f ∷ fs) same = absurd same
+entry_bytes-clones (e ∷ es) [] same = absurd same
+entry_bytes-clones (e ∷ es) (f ∷ fs) same = λ i. (same.0.0 i, same.0.1 i) ∷ entry_bytes-clones es fs same.1 i
 
 -- a clone of a map of texts has the same map of bytes
 pub texts_of-clones : (entries clones : List (String Global × String Global)) → AllZip (λ e f. (string_bytes f.0 ≡ string_bytes e.0) × (string_bytes f.1 ≡ string_bytes e.1)) entries clones → texts_of clones ≡ texts_of entries
-texts_of-clones entries clones same = ap (λ pairs. finite.from_entries pairs) (bytes_of-clones entries clones same)
+texts_of-clones entries clones same = ap (λ pairs. finite.from_entries pairs) (entry_bytes-clones entries clones same)
 
 -- the map of bytes of a map of texts answers as it does
 pub get-view : (m : tree.BTreeMap (String Global) (String Global)) (view : TextMap) (q : List ℕ) → texts_of m.entries ≡ view → option_map string_bytes (tree.get_by_text m q) ≡ finite.get view q

@@ -3,7 +3,7 @@ use Rattle.std.specs.Prelude.{ℕ, ◌-◌, Bool, List, [], ◌∷◌}
 use Rattle.mk_base.specs.Meter.{Meter}
 use Rattle.mk_base.specs.Outcome.{Work}
 use Rattle.mk_base.specs.declared.faults.FaultKind.{FaultKind}
-use Rattle.mk_env.specs.declared.reading.Mention.{Mention}
+use Rattle.mk_env.specs.declared.mentions.Mention.{Mention}
 use Rattle.mk_env.specs.declared.scope.Active.{Active, Nothing, Name'}
 use Rattle.mk_env.specs.declared.scope.ExpansionScope.{ExpansionScope}
 use Rattle.mk_env.specs.declared.scope.Undefined.TheVariants as kept

@@ -4,6 +4,7 @@ use Rattle.std.specs.Prelude.{ℕ, suc, zero, Bool, false, true, if◌then◌els
 use Rattle.std.specs.Prelude.{Option, Some, None, option_map}
 use Rattle.std.specs.List.{list_any}
 use Rattle.std.specs.Str.{bytes_eq}
+use Rattle.general_facts.specs.Ascii.{dollar}
 use Rattle.mk_base.specs.declared.faults.FaultKind.{FaultKind}
 use Rattle.mk_base.specs.declared.faults.FaultKind.TheVariants as kinds
 use Rattle.mk_base.specs.Meter.{Meter, pay}
@@ -38,10 +39,10 @@ bounded text m = if nat_lt TEXT_LIMIT (length text) then fail kinds.Length m els
 abbrev pub join : List ℕ → Work Meter FaultKind (List ℕ) → Work Meter FaultKind (List ℕ)
 join text more = more >>= λ found. bounded (text ++ found)
 
--- what a piece of a text means: a pair is a dollar (36)
+-- what a piece of a text means: a pair is a dollar
 abbrev pub piece_meaning : References → TextPiece → Work Meter FaultKind (List ℕ)
 piece_meaning references (LiteralPiece bytes) = give bytes
-piece_meaning references EscapedDollarPiece = give (36 ∷ [])
+piece_meaning references EscapedDollarPiece = give (dollar ∷ [])
 piece_meaning references (ReferencePiece written name modifiers) = references written name modifiers
 
 -- a text with the meaning of its next piece joined on
@@ -116,8 +117,9 @@ modifiers_for profile active name modifiers =
 -- What a reference means once its name is known. `references` says what others mean while the values of some
 -- names are being expanded. The modifiers are read, the value is expanded, and the modifiers are applied
 -- from left to right.
-abbrev pub named : (List (List ℕ) → References) → Variables → List (List ℕ) → List ℕ → Option (List ℕ) → Work Meter FaultKind (List ℕ)
-named references variables active name modifiers =
+abbrev pub named_meaning :
+    (List (List ℕ) → References) → Variables → List (List ℕ) → List ℕ → Option (List ℕ) → Work Meter FaultKind (List ℕ)
+named_meaning references variables active name modifiers =
     modifiers_for (language_of variables) active name modifiers
     >>= λ actions. value_meaning (references (name ∷ active)) (text_in variables name)
     >>= λ value. each (modified (references active)) value actions
@@ -132,13 +134,13 @@ is_kept kept.Kept (Some text) = false
 abbrev pub by_name : Undefined → (List (List ℕ) → References) → Variables → List (List ℕ) → List ℕ → Option (List ℕ)
     → List ℕ → Work Meter FaultKind (List ℕ)
 by_name undefined_gives references variables active written modifiers name =
-    if is_kept undefined_gives (text_in variables name) then give written else named references variables active name modifiers
+    if is_kept undefined_gives (text_in variables name) then give written else named_meaning references variables active name modifiers
 
 -- The beginning of a reference, if this many references may be nested, itself included. Its unit is paid
 -- before anything else is looked at. Then it is a fault if the reference is nested too deep.
-unfoldable pub begin : ℕ → Work Meter FaultKind (Unit {0})
-begin zero m = (pay >>= λ _. fail kinds.Depth) m
-begin (suc levels) m = pay m
+unfoldable pub enter_reference : ℕ → Work Meter FaultKind (Unit {0})
+enter_reference zero m = (pay >>= λ _. fail kinds.Depth) m
+enter_reference (suc levels) m = pay m
 
 -- What a reference means if this many may be nested, itself included, and while the values of these names
 -- are being expanded. It costs a unit; then its name is expanded. The first argument says what becomes of
@@ -160,7 +162,7 @@ expand_now variables = text_meaning (reference kept.Kept 32 variables [])
 
 -- what a reference to the variable of exactly this name means, if it isn't inside another reference
 abbrev pub variable : Variables → Meaning
-variable variables name = pay >>= λ _. named (reference kept.Empty 31 variables) variables [] name None
+variable variables name = pay >>= λ _. named_meaning (reference kept.Empty 31 variables) variables [] name None
 
 -- What a reference means that is given by its inside, of which these units are read and this is left. Its
 -- name is the units before the first colon outside references. Its modifiers are the units after that colon.
@@ -171,8 +173,8 @@ by_inside references text units (b ∷ left) = fail kinds.Reference
 
 -- What a reference with this inside means, if it isn't inside another reference. A mark that would close it
 -- is a byte like any other. It is never kept as it is written, so only its name and its modifiers count.
-abbrev pub inside : Variables → Meaning
-inside variables text = by_inside (reference kept.Empty 32 variables []) text (units_of text) (left_of text)
+abbrev pub inside_meaning : Variables → Meaning
+inside_meaning variables text = by_inside (reference kept.Empty 32 variables []) text (units_of text) (left_of text)
 
 -- What these modifiers make of a text that is given, such as the word that a loop puts in the place of a
 -- reference. That reference is already paid for, and the references in the modifiers count as inside it.

@@ -4,4 +4,4 @@ pub mod ActiveNames
 pub mod Refusals
 pub mod Laws
 pub mod Mentions
-pub mod Giving
+pub mod ExpansionResults

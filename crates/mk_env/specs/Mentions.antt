@@ -3,12 +3,12 @@ use Rattle.std.specs.Prelude.{◌≡◌, ℕ, List, map, Option, option_map, Res
 use Rattle.std.specs.Borrow.{Bor}
 use Rattle.std.specs.declared.alloc.Global.{Global}
 use Rattle.mk_text.specs.Words.{span_text}
-use Rattle.mk_ref.specs.declared.cutting.Piece.{Piece}
-use Rattle.mk_ref.specs.declared.cutting.Reference.{Reference}
+use Rattle.mk_ref.specs.declared.piece.Piece.{Piece}
+use Rattle.mk_ref.specs.declared.piece.Reference.{Reference}
 use Rattle.mk_ref.specs.Units.{sources, before_colon, following_colon, units_of}
 use Rattle.mk_ref.specs.Pieces.{pieces_of}
-use Rattle.mk_ref.specs.Places.{shown}
-use Rattle.mk_env.specs.declared.reading.Mention.{Mention}
+use Rattle.mk_ref.specs.Places.{piece_in_text}
+use Rattle.mk_env.specs.declared.mentions.Mention.{Mention}
 
 -- the text that is lent, if there is one
 abbrev pub lent_text : Option (Bor (List ℕ)) → Option (List ℕ)
@@ -28,4 +28,4 @@ HasModifiersOf mention text reference = lent_text mention.modifiers ≡ option_m
 
 -- if it succeeds, it cut this text into its pieces
 abbrev pub GivesPieces : {F : Type 0} → Result (Vec Piece Global) F → List ℕ → Type 0
-GivesPieces result text = IfOk result (λ found. map (shown text) found.items ≡ pieces_of (units_of text))
+GivesPieces result text = IfOk result (λ found. map (piece_in_text text) found.items ≡ pieces_of (units_of text))

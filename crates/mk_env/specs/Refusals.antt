@@ -1,7 +1,7 @@
 -- Why a part of an expansion stopped. If memory ran out, nothing is said.
 use Rattle.std.specs.Prelude.{◌≡◌, ◌≢◌, ◌<◌, ℕ, List, [], length, Option, None, Result, IfErr}
-use Rattle.mk_base.specs.declared.stopping.PureStop.{PureStop}
-use Rattle.mk_base.specs.declared.stopping.PureStop.TheVariants as pure
+use Rattle.mk_base.specs.declared.stops.PureStop.{PureStop}
+use Rattle.mk_base.specs.declared.stops.PureStop.TheVariants as pure
 use Rattle.mk_base.specs.declared.faults.FaultKind.{FaultKind}
 use Rattle.mk_base.specs.declared.faults.FaultKind.TheVariants as kinds
 use Rattle.mk_text.specs.declared.limits.TheConstants.{TEXT_LIMIT}

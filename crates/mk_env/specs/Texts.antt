@@ -1,8 +1,10 @@
 use Rattle.std.specs.Prelude.{ℕ, List, ◌∷◌, ◌++◌, map, Option, None, Some, is_some, if◌then◌else◌, string_bytes, String}
+use Rattle.std.specs.Prelude.{Result, OnOk, ◌≡◌}
 use Rattle.std.specs.Ordering.{nat_cmp}
 use Rattle.std.specs.Cmp.Lexicographic.{slice_cmp}
 use Rattle.std.specs.declared.alloc.Global.{Global}
 use Rattle.std.specs.FinMap as finite
+use Rattle.general_facts.specs.Ascii.{space}
 use Rattle.mk_text.specs.declared.profile.Profile.{Profile}
 
 -- the texts of variables, by their names: a name that isn't there isn't defined
@@ -34,19 +36,23 @@ abbrev pub without_text : Variables → List ℕ → Variables
 without_text variables name = (variables.0, finite.remove variables.1 name)
 
 -- the bytes of a name and of its text
-abbrev pub bytes_of : String Global × String Global → List ℕ × List ℕ
-bytes_of entry = (string_bytes entry.0, string_bytes entry.1)
+abbrev pub entry_bytes : String Global × String Global → List ℕ × List ℕ
+entry_bytes entry = (string_bytes entry.0, string_bytes entry.1)
 
 -- the map of these entries, by their bytes
 abbrev pub texts_of : List (String Global × String Global) → TextMap
-texts_of entries = finite.from_entries (map bytes_of entries)
+texts_of entries = finite.from_entries (map entry_bytes entries)
 
 -- what `+=` leaves in a variable: its text, a space and the added text, or the added text alone if the
 -- variable wasn't defined
 abbrev pub appended : Option (List ℕ) → List ℕ → List ℕ
 appended None text = text
-appended (Some before) text = before ++ 32 ∷ text
+appended (Some before) text = before ++ space ∷ text
 
 -- what `?=` leaves: a name that is defined keeps its text, and one that isn't gets this text
 abbrev pub defaulted : Variables → List ℕ → List ℕ → Variables
 defaulted variables name text = if is_some (text_in variables name) then variables else with_text variables name text
+
+-- where a function succeeds, it appended a text to that of this variable
+abbrev pub AppendsText : {R F : Type 0} → Result R F → Variables → Variables → List ℕ → List ℕ → Type 0
+AppendsText result old new name text = OnOk result (new ≡ with_text old name (appended (text_in old name) text))

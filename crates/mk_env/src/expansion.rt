@@ -1,11 +1,11 @@
 //! Texts with their references expanded.
 ghost use Rattle.mk_base.specs.Meter.{IsLater};
 ghost use Rattle.mk_env.specs.Expansion.{expand, expand_now, variable};
-ghost use Rattle.mk_env.specs.Giving.{GivesText, ExpandsInside, Modifies};
+ghost use Rattle.mk_env.specs.ExpansionResults.{GivesText, ExpandsInside, Modifies};
 
 use crate::Env;
 use crate::insides::mention_of;
-use crate::reading::read_modifiers;
+use crate::mentions::read_modifiers;
 use crate::references::{apply_modifiers, expand_named, expand_reference, expand_text};
 use crate::scope::{ExpansionScope, Undefined};
 use mk_base::{Budget, FaultKind, PureStop};

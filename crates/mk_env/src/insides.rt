@@ -6,7 +6,7 @@ ghost use Rattle.mk_ref.specs.Outside.{outside};
 ghost use Rattle.mk_env.specs.Mentions.{lent_text, name_inside, modifiers_inside};
 ghost use Rattle.mk_env.specs.Refusals.{IsUncut};
 
-use crate::reading::{Mention, cut};
+use crate::mentions::{Mention, cut};
 use mk_base::{FaultKind, PureStop};
 use mk_ref::outside;
 use std::alloc::Global;

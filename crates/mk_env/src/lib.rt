@@ -1,11 +1,11 @@
 //! Variables of a makefile, and what texts that refer to them expand to (make(1), "VARIABLES").
 #![tactic(auto)]
 
+mod bounded_texts;
 mod expansion;
 mod insides;
-mod joining;
 mod laws;
-mod reading;
+mod mentions;
 mod references;
 mod scope;
 mod variables;

@@ -1,18 +1,15 @@
 //! What references mean, and the texts and modifiers that they are in.
 ghost use Rattle.std.specs.Prelude.{◌≡◌, ◌≢◌, ◌≤◌, string_bytes, length, IfOk, IsTrue};
-ghost use Rattle.mk_base.specs.Outcome.{each};
 ghost use Rattle.mk_base.specs.Meter.{IsLater};
-ghost use Rattle.mk_base.specs.Stopping.{GivesPurely};
-ghost use Rattle.mk_ref.specs.Places.{shown, IsPieceIn};
-ghost use Rattle.mk_mods.specs.Actions.{action_of, symbols_of, IsExpanded};
+ghost use Rattle.mk_ref.specs.Places.{IsPieceIn};
+ghost use Rattle.mk_mods.specs.Actions.{action_of, IsExpanded};
 ghost use Rattle.mk_env.specs.declared.scope.Undefined.TheVariants as kept;
-ghost use Rattle.mk_env.specs.Expansion as meaning;
-ghost use Rattle.mk_env.specs.ActiveNames.{references_in, meaning_in, mention_in, expanded_value};
-ghost use Rattle.mk_env.specs.Giving.{GivesText, BeginsReference, ExpandsByName, ExpandsNamed, FindsModifiers};
-ghost use Rattle.mk_env.specs.Giving.{Applies, AppliesAll, ExpandsParts, IsAppliedAsItIs};
+ghost use Rattle.mk_env.specs.ActiveNames.{meaning_in, mention_in, expanded_value};
+ghost use Rattle.mk_env.specs.ExpansionResults.{GivesText, BeginsReference, ExpandsByName, ExpandsNamed, FindsModifiers};
+ghost use Rattle.mk_env.specs.ExpansionResults.{Applies, AppliesAll, ExpandsParts, IsAppliedAsItIs, JoinsPiece, JoinsPart};
 
-use crate::joining::{copy_bounded, has_dollar, means_itself, push_bounded};
-use crate::reading::{
+use crate::bounded_texts::{copy_bounded, has_dollar, means_itself, push_bounded};
+use crate::mentions::{
     Mention, apply_expanded, apply_substitution, as_written, cut, mentioned, read_modifiers,
 };
 use crate::scope::{Active, ExpansionScope};
@@ -56,9 +53,8 @@ fn join_piece(
 ) -> Result<(), PureStop<FaultKind>>
     requires { IsPieceIn text.now piece.now }
     ensures later { IsLater budget.old budget.new }
-    ensures gives { GivesPurely (λ _. string_bytes joined.new) result budget.new
-        (meaning.join_piece (references_in scope.entry) (string_bytes joined.old)
-        (shown text.now piece.now) budget.old) }
+    ensures gives { JoinsPiece scope.entry text.now piece.now result joined.old joined.new
+        budget.old budget.new }
 {
     match piece {
         Piece::Literal(span) => push_bounded(joined, span.of(text)),
@@ -92,7 +88,7 @@ pub(crate) fn expand_reference(
 }
 
 /// Spends the unit of a reference, and checks that it isn't nested too deep.
-#[tactic(auto, unfolding(crate::specs::Expansion::begin))]
+#[tactic(auto, unfolding(crate::specs::Expansion::enter_reference))]
 fn begin_reference(
     scope: ExpansionScope<'_>,
     budget: &mut Budget,
@@ -286,9 +282,8 @@ fn join_part(
     requires small { length (string_bytes joined.old) ≤ TEXT_LIMIT }
     ensures small { IfOk result (λ _. length (string_bytes joined.new) ≤ TEXT_LIMIT) }
     ensures later { IsLater budget.old budget.new }
-    ensures gives { GivesPurely (λ _. string_bytes joined.new) result budget.new
-        (each (meaning.join_symbol (references_in scope.entry) old.now) (string_bytes joined.old)
-        (symbols_of part.now) budget.old) }
+    ensures gives { JoinsPart scope.entry old.now part.now result joined.old joined.new
+        budget.old budget.new }
 {
     match part {
         Part::Text(text) => push_bounded(joined, text.as_str()),

@@ -1,7 +1,7 @@
 ghost use Rattle.std.specs.Prelude.{◌≡◌, ◌∷◌, OnOk, OnErr, ◌↔◌, IsTrue, option_map, is_some, IfOk};
 ghost use Rattle.std.specs.Option.{option_copied};
-ghost use Rattle.mk_env.specs.Texts.{appended, defaulted, language_of, no_variables, text_in};
-ghost use Rattle.mk_env.specs.Texts.{with_text, without_text};
+ghost use Rattle.mk_env.specs.Texts.{defaulted, language_of, no_variables, text_in};
+ghost use Rattle.mk_env.specs.Texts.{with_text, without_text, AppendsText};
 
 use mk_text::Profile;
 use std::alloc::{AllocError, Global};
@@ -59,8 +59,7 @@ impl Env {
     /// gets this text (`+=` of make(1)). That takes time in proportion to the added text (amortised),
     /// however long the variable's text is. It fails only if memory runs out, and then nothing changes.
     pub fn append(&mut self, name: &str, text: &str) -> Result<(), AllocError>
-        ensures ok { OnOk result (self.new
-            ≡ with_text self.old name.now (appended (text_in self.old name.now) text.now)) }
+        ensures ok { AppendsText result self.old self.new name.now text.now }
         ensures err { OnErr result (self.new ≡ self.old) }
     {
         match self.variables.get_mut(name) {

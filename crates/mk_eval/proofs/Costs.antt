@@ -1,17 +1,17 @@
 -- Evaluations and values cost no more than their budgets.
 use Rattle.std.proofs.Common.{◌≡◌, ◌≤◌, ◌∙◌, ℕ, Bool, true, false, if◌then◌else◌, List, Option, None, is_some, Result, Ok, Err, refl, sym, ap, subst, arith}
 use Rattle.mk_base.specs.declared.faults.FaultKind.{FaultKind}
-use Rattle.mk_base.specs.declared.metering.TheConstants.{UNITS}
+use Rattle.mk_base.specs.declared.budget.TheConstants.{UNITS}
 use Rattle.mk_base.specs.FaultAt.{FaultAt}
 use Rattle.mk_base.specs.Meter.{Meter, full}
 use Rattle.mk_base.specs.Outcome.{left, tell}
 use Rattle.mk_env.specs.Expansion.{variable}
 use Rattle.mk_env.specs.Texts.{Variables, text_in}
-use Rattle.mk_files.specs.Asking.{beside}
+use Rattle.mk_files.specs.Questions.{beside}
 use Rattle.mk_paths.specs.World.{World}
 use Rattle.mk_eval.specs.Costs.{CostFew, value_units}
-use Rattle.mk_eval.specs.Meaning.{evaluated, means, value_of, valued, at}
-use Rattle.mk_eval.specs.Sharing.{cost_of}
+use Rattle.mk_eval.specs.Meaning.{evaluated, means, value_of_variable, valued, at}
+use Rattle.mk_eval.specs.Agreement.{cost_of}
 use Rattle.mk_eval.specs.declared.state.EvalState.{EvalState}
 use Rattle.mk_eval.proofs.Shared.{with_questions}
 use Rattle.mk_eval.proofs.SharedEvaluation.{shared-evaluation}
@@ -41,7 +41,7 @@ module _ (variables : Variables) (makefile name : List ℕ) where
       subst (λ (cost : ℕ). cost ≤ UNITS) (sym (valued-costs makefile work)) ((steady-variable variables name).within (full UNITS) (omega arith))
   by-there false = omega arith
 
-values-few : (variables : Variables) (makefile name : List ℕ) → value_units (value_of variables makefile name) ≤ UNITS
+values-few : (variables : Variables) (makefile name : List ℕ) → value_units (value_of_variable variables makefile name) ≤ UNITS
 values-few variables makefile name = by-there variables makefile name (is_some (text_in variables name))
 
 pub cost-few : CostFew

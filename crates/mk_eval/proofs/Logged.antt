@@ -1,18 +1,18 @@
 -- What an evaluation means doesn't depend on a log, what it leaves in one is what the definition asks under a budget of its cost, and every
 -- world that answers the same means the same.
 use Rattle.std.proofs.Common.{◌≡◌, ◌≤◌, ◌∙◌, ◌++◌, ℕ, List, [], Option, Some, None, unwrap_or, Result, Ok, Err, refl, sym, ap, subst, arith}
-use Rattle.mk_base.specs.declared.metering.TheConstants.{UNITS}
+use Rattle.mk_base.specs.declared.budget.TheConstants.{UNITS}
 use Rattle.mk_base.specs.FaultAt.{FaultAt}
 use Rattle.mk_base.specs.Meter.{Meter, full}
 use Rattle.mk_base.specs.Outcome.{left}
 use Rattle.mk_paths.specs.FilesView.{Question, FilesView, noted}
 use Rattle.mk_paths.specs.World.{FileMap}
 use Rattle.mk_paths.specs.declared.search_path.Settings.{Settings}
-use Rattle.mk_files.specs.Asking.{Account, beside}
-use Rattle.mk_files.specs.Looking.{AfterQuestions}
+use Rattle.mk_files.specs.Questions.{Account, beside}
+use Rattle.mk_files.specs.AfterQuestions.{AfterQuestions}
 use Rattle.mk_eval.specs.declared.state.EvalState.{EvalState}
-use Rattle.mk_eval.specs.Meaning.{evaluation, evaluated, fresh, means, questions_asked}
-use Rattle.mk_eval.specs.Sharing.{Agrees, cost_of, questions_of, IsTheSameWhereAnswered}
+use Rattle.mk_eval.specs.Meaning.{evaluation, evaluated, unspent_account, means, questions_asked}
+use Rattle.mk_eval.specs.Agreement.{Agrees, cost_of, questions_of, IsTheSameWhereAnswered}
 use Rattle.mk_eval.proofs.Shared.{Shared, with_questions}
 use Rattle.mk_eval.proofs.SharedEvaluation.{shared-evaluation}
 
@@ -56,7 +56,7 @@ module _ (files other : FileMap) (settings : Settings) (name : List ℕ) (flavor
   cost-is = ap (λ end. cost_of (evaluated end)) (both.is (full UNITS) None) ∙ cost-beside (with_questions None (both.asks (full UNITS))) (both.ends (full UNITS))
 
   module _ (agrees : Agrees other (questions_of files settings name flavors)) where
-    ends-alike : evaluation (other, settings) name flavors (fresh UNITS None) ≡ evaluation (files, settings) name flavors (fresh UNITS None)
+    ends-alike : evaluation (other, settings) name flavors (unspent_account UNITS None) ≡ evaluation (files, settings) name flavors (unspent_account UNITS None)
     ends-alike = both.shared (full UNITS) None (subst (Agrees other) (ap (questions_asked (files, settings) name flavors) cost-is ∙ sym asked-whole) agrees)
 
     means-alike : means (other, settings) name flavors ≡ means (files, settings) name flavors

@@ -6,8 +6,8 @@ use Rattle.mk_base.specs.Outcome.{Work, give, fail, after, each, tell, left, ◌
 use Rattle.mk_paths.specs.World.{FileMap}
 use Rattle.std.specs.FinMap.{get, contains_key}
 use Rattle.mk_paths.specs.FilesView.{Reply, Presence, Contents, Question, IsReply}
-use Rattle.mk_files.specs.Asking.{Account, beside, quietly, answered, look_read, ask_has, ask_read}
-use Rattle.mk_eval.specs.Sharing.{Agrees, Agrees-first, Agrees-rest}
+use Rattle.mk_files.specs.Questions.{Account, beside, quietly, logged_answer, look_read, ask_has, ask_read}
+use Rattle.mk_eval.specs.Agreement.{Agrees, Agrees-first, Agrees-rest}
 use Rattle.mk_eval.proofs.Steady.{Steady, steady-give, steady-fail, steady-question, steady-bind, steady-tell, told_left, first_within, under, lowered}
 
 -- a log, if there is one, with these questions after it
@@ -64,14 +64,14 @@ shared-fail other fault = record {
 
 -- one question that is answered, the same way among the other files where these give that answer
 pub shared-answered : {A F : Type 0} (other : FileMap) (reply : A → Reply) (name : List ℕ) (answer again : A) → (IsReply other name (reply answer) → answer ≡ again)
-    → Shared {A = A} {F = F} other (answered reply name answer) (answered reply name again)
+    → Shared {A = A} {F = F} other (logged_answer reply name answer) (logged_answer reply name again)
 shared-answered other reply name answer again alike = record {
   asks = λ m. (name, reply answer) ∷ [];
   ends = give answer;
   is = λ m log. refl;
   steady = steady-give answer;
   same = λ m limit low inside. refl;
-  shared = λ m log agrees. ap (λ found. answered reply name found (record { meter = m; log = log })) (sym (alike agrees.0));
+  shared = λ m log agrees. ap (λ found. logged_answer reply name found (record { meter = m; log = log })) (sym (alike agrees.0));
 }
 
 module _ {A B F : Type 0} (other : FileMap) (work again : Work Account F A) (next onward : A → Work Account F B) (first : Shared other work again) (second : (x : A) → Shared other (next x) (onward x)) where

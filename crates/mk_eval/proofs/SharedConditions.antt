@@ -15,8 +15,8 @@ use Rattle.cond_grammar.specs.declared.tokens.Side.{Side}
 use Rattle.cond_grammar.specs.declared.tokens.Side.TheVariants.{Quoted, Bare}
 use Rattle.cond_grammar.specs.Trees.{OrTree, OrOf, LaterAnds, NoAnds, MoreAnds, AndTree, AndOf, LaterNots, NoNots, MoreNots, NotTree, Negated, Grouped, Called, Compared, Alone}
 use Rattle.cond_grammar.specs.Conditions.{tree_in}
-use Rattle.mk_cond.specs.Numbers.{number_of}
-use Rattle.mk_cond.specs.Leaves.{Surroundings, is_there, called, known, compared, has_reference, lone, bare, alone}
+use Rattle.mk_cond.specs.Numbers.{hex_or_decimal}
+use Rattle.mk_cond.specs.Leaves.{Surroundings, ask_if_there, call_holds, known, compared, has_reference, lone, bare, side_alone}
 use Rattle.mk_cond.specs.Truths.{or_truth, later_ands_truth, and_truth, later_nots_truth, not_truth}
 use Rattle.mk_cond.specs.Truth.{readable, tree_read, condition_truth, parts_truth}
 use Rattle.mk_eval.proofs.Steady as steady
@@ -33,7 +33,7 @@ steady-compared variables text one comparison other =
     steady.bind (steady-expand variables _) (λ left. steady.bind (steady-expand variables _) (λ right. steady-known _))
 
 module _ (files other : FileMap) where
-  shared-is_there : (name : Result (List ℕ) NameFault) → Shared other (is_there files name) (is_there other name)
+  shared-is_there : (name : Result (List ℕ) NameFault) → Shared other (ask_if_there files name) (ask_if_there other name)
   shared-is_there (Ok name) = shared-ask_has files other name
   shared-is_there (Err fault) = shared-give other false
 
@@ -42,7 +42,7 @@ abbrev among : FileMap → Surroundings → Surroundings
 among other s = record s { files = other }
 
 module _ (other : FileMap) (s : Surroundings) where
-  shared-called : (call : Call) (argument : List ℕ) → Shared other (called s call argument) (called (among other s) call argument)
+  shared-called : (call : Call) (argument : List ℕ) → Shared other (call_holds s call argument) (call_holds (among other s) call argument)
   shared-called Defined argument = shared-quietly other (steady.bind (steady-expand s.variables argument) (λ name. steady-give _))
   shared-called Empty argument = shared-quietly other (steady.bind (steady-inside s.variables argument) (λ value. steady-give _))
   shared-called Exists argument =
@@ -56,9 +56,9 @@ module _ (other : FileMap) (s : Surroundings) where
 
   shared-bare : (word : List ℕ) → Shared other (bare s word) (bare (among other s) word)
   shared-bare word =
-      either (has_reference word) (shared-quietly other (steady.bind (steady-expand s.variables word) (λ found. steady-give _))) (shared-lone word (number_of word))
+      either (has_reference word) (shared-quietly other (steady.bind (steady-expand s.variables word) (λ found. steady-give _))) (shared-lone word (hex_or_decimal word))
 
-  shared-alone : (side : Side) → Shared other (alone s side) (alone (among other s) side)
+  shared-alone : (side : Side) → Shared other (side_alone s side) (side_alone (among other s) side)
   shared-alone (Quoted span) = shared-quietly other (steady.bind (steady-expand s.variables _) (λ found. steady-give _))
   shared-alone (Bare span) = shared-bare (span_text s.text span)
 

@@ -5,9 +5,9 @@ use Rattle.mk_base.specs.declared.faults.FaultKind.{FaultKind}
 use Rattle.mk_base.specs.FaultAt.{FaultAt}
 use Rattle.mk_base.specs.Outcome.{Work}
 use Rattle.mk_text.specs.Lines.{LogicalLine}
-use Rattle.mk_ast.specs.declared.parsing.ParseFault.{ParseFault}
+use Rattle.mk_ast.specs.declared.parser.ParseFault.{ParseFault}
 use Rattle.mk_ast.specs.Trees.{Tree, LineTree, ChoiceTree, LoopTree, Block, EmptyBlock, MoreBlock, Branches, NoBranches, ElifBranch, ElseBranch}
-use Rattle.mk_ast.specs.Parsing.{parsed}
+use Rattle.mk_ast.specs.Parser.{parsed}
 use Rattle.mk_ast.specs.Kinds.{line_kind}
 use Rattle.mk_text.specs.Words.{words_of}
 use Rattle.mk_env.specs.Texts.{Variables, text_in}
@@ -15,14 +15,14 @@ use Rattle.mk_paths.specs.FileName.{resolved, name_under, directory_of}
 use Rattle.mk_paths.specs.declared.file_name.NameFault.{NameFault}
 use Rattle.mk_paths.specs.World.{FileMap}
 use Rattle.mk_paths.specs.declared.search_path.Settings.{Settings}
-use Rattle.mk_files.specs.Asking.{Account}
+use Rattle.mk_files.specs.Questions.{Account}
 use Rattle.mk_eval.specs.declared.state.EvalState.{EvalState}
 use Rattle.mk_eval.specs.Lines.{Loops, Request, inside_turn}
-use Rattle.mk_eval.specs.Heads.{judge, form_in}
-use Rattle.mk_eval.specs.Includes.{Form, OwnFile, PortFile, SubdirFile, SystemFile, NoForm, form_of, Place, Opened, deep_enough, named, found, open_named, open_own, open_if_there, open_port, first_port, open_form, open_request}
+use Rattle.mk_eval.specs.Heads.{condition_holds, form_in}
+use Rattle.mk_eval.specs.Includes.{Form, OwnFile, PortFile, SubdirFile, SystemFile, NoForm, form_of, Place, Opened, deep_enough, name_or_fault, found, open_named, open_own, open_if_there, open_port, first_port, open_form, open_request}
 use Rattle.mk_eval.specs.Modules.{asks_modules, module_words, module_file, names_in_trees, opened_or, open_first, open_module}
 use Rattle.mk_eval.specs.Execution.{LineWorks, execute_tree, execute, execute_branches}
-use Rattle.mk_eval.specs.Meaning.{at, Entering, enter, open_line, include_module, include_modules, modules_after, perform_line, works_at, execute_read, nothing_entered, file_meaning, makefile_meaning, opening, evaluation}
+use Rattle.mk_eval.specs.Meaning.{at, Entering, enter, open_line, include_module, include_modules, modules_after, perform_line, works_at, execute_read, nothing_entered, file_meaning, makefile_meaning, opening_state, evaluation}
 use Rattle.mk_eval.proofs.Steady as steady
 use Rattle.mk_eval.proofs.Steady.{Steady, steady-give, steady-pay}
 use Rattle.mk_eval.proofs.SteadyTexts.{steady-variable}
@@ -35,7 +35,7 @@ module _ (other : FileMap) where
   shared-deep_enough zero = shared-fail other kinds.IncludeDepth
   shared-deep_enough (suc levels) = shared-give other tt
 
-  shared-named : (name : Result (List ℕ) NameFault) → Shared other (named name) (named name)
+  shared-named : (name : Result (List ℕ) NameFault) → Shared other (name_or_fault name) (name_or_fault name)
   shared-named (Ok name) = shared-give other name
   shared-named (Err fault) = shared-fail other kinds.Include
 
@@ -121,7 +121,7 @@ module _ {S : Type 0} (other : FileMap) (works again : LineWorks Account FaultAt
     shared-branches (ElifBranch line block more) loops s = bind (are.holds loops line s) (λ held. either held (shared-block block loops s) (shared-branches more loops s))
     shared-branches (ElseBranch block) loops s = shared-block block loops s
 
-shared-judge : (files other : FileMap) (makefile : List ℕ) (variables : Variables) (loops : Loops) (line : List ℕ) → Shared other (judge files makefile variables loops line) (judge other makefile variables loops line)
+shared-judge : (files other : FileMap) (makefile : List ℕ) (variables : Variables) (loops : Loops) (line : List ℕ) → Shared other (condition_holds files makefile variables loops line) (condition_holds other makefile variables loops line)
 shared-judge files other makefile variables loops line =
     bind (shared-quietly other (steady-head_text variables loops (line_kind line))) (λ text. shared-parts files other variables makefile (option_map (λ form. (form, text)) (form_in (line_kind line))))
 
@@ -177,7 +177,7 @@ file-shared files other makefile (suc levels) = record {
 module _ (files other : FileMap) (settings : Settings) (name : List ℕ) (flavors : Option (List (List ℕ))) where
   shared-makefile : (bytes : Option (List ℕ)) → Shared other (makefile_meaning (files, settings) name flavors bytes) (makefile_meaning (other, settings) name flavors bytes)
   shared-makefile None = shared-fail other _
-  shared-makefile (Some bytes) = (file-shared files other name 16).all name bytes (opening (files, settings) name flavors)
+  shared-makefile (Some bytes) = (file-shared files other name 16).all name bytes (opening_state (files, settings) name flavors)
 
   pub shared-evaluation : Shared other (evaluation (files, settings) name flavors) (evaluation (other, settings) name flavors)
   unfolding evaluation

@@ -3,7 +3,7 @@ use Rattle.std.proofs.Common.{◌≡◌, ◌≤◌, ◌+◌, ◌∙◌, ℕ, nat
 use Rattle.std.proofs.lemmas.Bool.Decides.{nat_tests}
 use Rattle.mk_base.specs.declared.faults.FaultKind.{FaultKind}
 use Rattle.mk_base.specs.declared.faults.FaultKind.TheVariants as kinds
-use Rattle.mk_base.specs.declared.metering.TheConstants.{QUESTIONS}
+use Rattle.mk_base.specs.declared.budget.TheConstants.{QUESTIONS}
 use Rattle.mk_base.specs.Meter.{Meter, pay, question}
 use Rattle.mk_base.specs.Outcome.{Work, give, fail, after, each, tell, left, ◌>>=◌}
 

@@ -10,14 +10,14 @@ use Rattle.mk_ast.specs.Kinds.{TextLineKind, CommandLine, BlankLine, DirectiveLi
 use Rattle.mk_ref.specs.Units.{TextUnit, Byte, EscapedDollar, Reference, units_of, left_of}
 use Rattle.mk_env.specs.Texts.{Variables, appended, text_in}
 use Rattle.mk_loop.specs.LoopWords.{LoopWords, word_named}
-use Rattle.mk_loop.specs.Putting.{SoFar, Puts, nothing, with_word, finished, changed, put_reference, put_unit, put_by, put, where_closed, put_words}
+use Rattle.mk_loop.specs.BodyLine.{SoFar, Puts, nothing, with_loop_word, finished, modified_word, put_reference, put_unit, put_by, put, where_closed, put_words}
 use Rattle.mk_loop.specs.Header.{header_parts, formed, header}
 use Rattle.mk_eval.specs.Lines.{Loops, store, assign, assign_to, direct, execute_kind, put_in, read_again, execute_in, perform_kind, perform}
 use Rattle.mk_eval.specs.Heads.{head_text, turns}
 use Rattle.mk_eval.proofs.Steady.{Steady, steady-give, steady-fail, steady-pay, bind, either, over}
 use Rattle.mk_eval.proofs.SteadyTexts.{steady-bounded, steady-expand, steady-expand_now, steady-modified_by}
 
-steady-with_word : (so_far : SoFar) (word : List ℕ) → Steady (with_word so_far word)
+steady-with_word : (so_far : SoFar) (word : List ℕ) → Steady (with_loop_word so_far word)
 steady-with_word so_far word = bind (steady-bounded _) (λ text. steady-give _)
 
 steady-finished : (so_far : SoFar) → Steady (finished so_far)
@@ -28,7 +28,7 @@ record PutsSteadily (puts : Puts) : Type 0 where
   pub all : (so_far : SoFar) (text : List ℕ) → Steady (puts so_far text)
 
 module _ (words : LoopWords) (variables : Variables) (puts : Puts) (does : PutsSteadily puts) where
-  steady-changed : (modifiers : Option (List ℕ)) (word : List ℕ) → Steady (changed variables puts modifiers word)
+  steady-changed : (modifiers : Option (List ℕ)) (word : List ℕ) → Steady (modified_word variables puts modifiers word)
   steady-changed None word = steady-give word
   steady-changed (Some modifiers) word = bind (bind (does.all nothing modifiers) steady-finished) (λ text. steady-modified_by variables text word)
 

@@ -8,7 +8,7 @@ use Rattle.mk_text.specs.declared.limits.TheConstants.{TEXT_LIMIT}
 use Rattle.mk_mods.specs.Actions.{Symbol, Byte, Whole, Reference, Action, Match, Exclude, Substitute, Change, Suffix}
 use Rattle.mk_mods.specs.Grammar.{modifiers_of}
 use Rattle.mk_env.specs.Texts.{Variables, language_of, text_in}
-use Rattle.mk_env.specs.Expansion.{References, bounded, piece_meaning, where_whole, text_meaning, symbol_meaning, symbols_meaning, made, modified, actions_of, readable, value_meaning, is_among, named, is_kept, by_name, reference, expand, expand_now, by_inside, inside, modified_by, variable}
+use Rattle.mk_env.specs.Expansion.{References, bounded, piece_meaning, where_whole, text_meaning, symbol_meaning, symbols_meaning, made, modified, actions_of, readable, value_meaning, is_among, named_meaning, is_kept, by_name, reference, expand, expand_now, by_inside, inside_meaning, modified_by, variable}
 use Rattle.mk_eval.proofs.Steady.{Steady, steady-give, steady-fail, steady-choice, steady-pay, bind, either, over}
 
 -- references that are all so
@@ -64,7 +64,7 @@ module _ (references : References) (are : AreSteady references) where
   steady-by_inside text units (b ∷ left) = steady-fail kinds.Reference
 
 module _ (references : List (List ℕ) → References) (are : (active : List (List ℕ)) → AreSteady (references active)) (variables : Variables) (active : List (List ℕ)) where
-  pub steady-named : (name : List ℕ) (modifiers : Option (List ℕ)) → Steady (named references variables active name modifiers)
+  pub steady-named : (name : List ℕ) (modifiers : Option (List ℕ)) → Steady (named_meaning references variables active name modifiers)
   steady-named name modifiers =
       bind (either (is_among name active) (steady-fail kinds.Recursive) (steady-readable (actions_of (language_of variables) modifiers)))
       (λ actions. bind (steady-value (references (name ∷ active)) (are (name ∷ active)) (text_in variables name))
@@ -88,7 +88,7 @@ steady-expand variables text = steady-text _ (are-steady _ 32 variables []) text
 pub steady-expand_now : (variables : Variables) (text : List ℕ) → Steady (expand_now variables text)
 steady-expand_now variables text = steady-text _ (are-steady _ 32 variables []) text
 
-pub steady-inside : (variables : Variables) (text : List ℕ) → Steady (inside variables text)
+pub steady-inside : (variables : Variables) (text : List ℕ) → Steady (inside_meaning variables text)
 steady-inside variables text = steady-by_inside _ (are-steady _ 32 variables []) text (units_of text) (left_of text)
 
 pub steady-modified_by : (variables : Variables) (modifiers text : List ℕ) → Steady (modified_by variables modifiers text)

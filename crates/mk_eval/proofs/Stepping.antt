@@ -1,16 +1,16 @@
 -- Other forms of the same: work that ends alike, a branch, a file.
 use Rattle.std.proofs.Common.{◌≡◌, ℕ, suc, zero, List, Result, refl, sym, subst}
-use Rattle.mk_base.specs.declared.stopping.Stop.{Stop}
-use Rattle.mk_base.specs.Stopping.{Gives}
+use Rattle.mk_base.specs.declared.stops.Stop.{Stop}
+use Rattle.mk_base.specs.Stops.{Gives}
 use Rattle.mk_text.specs.Lines.{LogicalLine}
 use Rattle.mk_ast.specs.declared.nodes.Branch.{Branch, out-Branch, fold_out-Branch}
 use Rattle.mk_ast.specs.Trees.{Tree, Block}
-use Rattle.mk_ast.specs.Parsing.{parsed}
+use Rattle.mk_ast.specs.Parser.{parsed}
 use Rattle.mk_ast.specs.Views.{block_of, branch_of, node_step, branch_step}
 use Rattle.mk_paths.specs.World.{FileMap}
-use Rattle.mk_files.specs.Asking.{Account}
+use Rattle.mk_files.specs.Questions.{Account}
 use Rattle.mk_eval.specs.Meaning.{file_meaning, execute_read}
-use Rattle.mk_eval.specs.Running.{entering_at}
+use Rattle.mk_eval.specs.Steps.{entering_at}
 use Rattle.mk_eval.specs.declared.state.EvalState.{EvalState}
 
 -- work that ends as other work

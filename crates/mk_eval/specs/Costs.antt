@@ -1,11 +1,11 @@
 -- What evaluations and values cost at most.
 use Rattle.std.specs.Prelude.{◌≤◌, ℕ, List, Option, Result, Ok, Err}
-use Rattle.mk_base.specs.declared.metering.TheConstants.{UNITS}
+use Rattle.mk_base.specs.declared.budget.TheConstants.{UNITS}
 use Rattle.mk_env.specs.Texts.{Variables}
 use Rattle.mk_paths.specs.World.{World}
 use Rattle.mk_eval.specs.Expanded.{Expanded, value_cost}
-use Rattle.mk_eval.specs.Meaning.{means, value_of}
-use Rattle.mk_eval.specs.Sharing.{cost_of}
+use Rattle.mk_eval.specs.Meaning.{means, value_of_variable}
+use Rattle.mk_eval.specs.Agreement.{cost_of}
 use Rattle.mk_eval.specs.declared.outcome.Failed.{Failed}
 
 -- the units of a value, up to its fault if it has one
@@ -17,4 +17,4 @@ value_units (Err failed) = failed.cost
 pub record CostFew : Type 0 where
   pub evaluations : (world : World) (name : List ℕ) (flavors : Option (List (List ℕ)))
       → cost_of (means world name flavors) ≤ UNITS
-  pub values : (variables : Variables) (makefile name : List ℕ) → value_units (value_of variables makefile name) ≤ UNITS
+  pub values : (variables : Variables) (makefile name : List ℕ) → value_units (value_of_variable variables makefile name) ≤ UNITS

@@ -17,12 +17,12 @@ pub record LineWorks (M F S : Type 0) : Type 0 where
   pub begins : LogicalLine → Work M F (Unit {0})
 
 -- an iteration of a loop: it begins, and then the body is executed within these loops
-abbrev pub turn_in : {M F S : Type 0} → Work M F (Unit {0}) → (Loops → S → Work M F S) → Loops → S → Work M F S
-turn_in begins body loops s = begins >>= λ _. body loops s
+abbrev pub iteration_in : {M F S : Type 0} → Work M F (Unit {0}) → (Loops → S → Work M F S) → Loops → S → Work M F S
+iteration_in begins body loops s = begins >>= λ _. body loops s
 
 -- the same for the iteration with these words, of a loop that is in other loops
 abbrev pub turn_of : {M F S : Type 0} → Work M F (Unit {0}) → (Loops → S → Work M F S) → Loops → S → LoopWords → Work M F S
-turn_of begins body loops s turn = turn_in begins body (inside_turn loops turn) s
+turn_of begins body loops s turn = iteration_in begins body (inside_turn loops turn) s
 
 -- the first branch if its condition holds, and otherwise the others
 abbrev pub chosen : {M F S : Type 0} → Work M F Bool → Work M F S → Work M F S → Work M F S

@@ -10,7 +10,7 @@ use Rattle.mk_ast.specs.declared.kinds.Directive.TheVariants as words
 use Rattle.mk_ast.specs.Kinds.{TextLineKind, DirectiveLine, line_kind}
 use Rattle.mk_env.specs.Texts.{Variables}
 use Rattle.mk_paths.specs.World.{FileMap}
-use Rattle.mk_files.specs.Asking.{Account, quietly}
+use Rattle.mk_files.specs.Questions.{Account, quietly}
 use Rattle.mk_cond.specs.declared.forms.Form.{Form}
 use Rattle.mk_cond.specs.Truth.{parts_truth}
 use Rattle.cond_grammar.specs.declared.tokens.Call.TheVariants.{Defined, Make}
@@ -44,8 +44,8 @@ head_text variables loops (DirectiveLine word rest) = pay >>= λ _. put_in varia
 head_text variables loops kind = fail kinds.Block
 
 -- whether the condition of a line holds, in the makefile of this name
-abbrev pub judge : FileMap → List ℕ → Variables → Loops → List ℕ → Work Account FaultKind Bool
-judge files makefile variables loops line =
+abbrev pub condition_holds : FileMap → List ℕ → Variables → Loops → List ℕ → Work Account FaultKind Bool
+condition_holds files makefile variables loops line =
     quietly (head_text variables loops (line_kind line))
     >>= λ text. parts_truth variables files makefile (option_map (λ form. (form, text)) (form_in (line_kind line)))
 

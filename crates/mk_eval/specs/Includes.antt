@@ -4,6 +4,7 @@
 use Rattle.std.specs.Prelude.{ℕ, suc, zero, ◌-◌, ◌==◌, ◌&&◌, nat_le, Bool, true, if◌then◌else◌, List, length, take}
 use Rattle.std.specs.Prelude.{drop, slice_index, slice_range, Option, Some, None, Result, Ok, Err, codes}
 use Rattle.std.specs.Str.{bytes_eq}
+use Rattle.general_facts.specs.Ascii.{double_quote, less_sign, greater_sign}
 use Rattle.mk_base.specs.declared.faults.FaultKind.{FaultKind}
 use Rattle.mk_base.specs.declared.faults.FaultKind.TheVariants as kinds
 use Rattle.mk_base.specs.Outcome.{Work, give, fail, ◌>>=◌}
@@ -11,7 +12,7 @@ use Rattle.mk_text.specs.Blanks.{trim_blanks}
 use Rattle.mk_paths.specs.declared.file_name.NameFault.{NameFault}
 use Rattle.mk_paths.specs.FileName.{resolved, name_under, directory_of}
 use Rattle.mk_paths.specs.World.{FileMap}
-use Rattle.mk_files.specs.Asking.{Account, ask_read}
+use Rattle.mk_files.specs.Questions.{Account, ask_read}
 use Rattle.mk_eval.specs.declared.outcome.Kind.{Kind}
 use Rattle.mk_eval.specs.declared.outcome.Kind.TheVariants as roles
 use Rattle.mk_eval.specs.declared.state.EvalState.{EvalState}
@@ -51,9 +52,9 @@ form_by (Some file) system = OwnFile file
 form_by None (Some name) = system_form name
 form_by None None = NoForm
 
--- the form of a text, without the blanks around it: in quotes (34), or between `<` (60) and `>` (62)
+-- the form of a text, without the blanks around it: in quotes, or between `<` and `>`
 abbrev pub form_of : List ℕ → Form
-form_of text = form_by (enclosed 34 34 (trim_blanks text)) (enclosed 60 62 (trim_blanks text))
+form_of text = form_by (enclosed double_quote double_quote (trim_blanks text)) (enclosed less_sign greater_sign (trim_blanks text))
 
 -- where an include is: among which files, in the evaluation of which makefile, in which file, and how many
 -- levels deep files may still include one another
@@ -77,9 +78,9 @@ deep_enough zero = fail kinds.IncludeDepth
 deep_enough (suc levels) = give tt
 
 -- the name of a file; a text that is no file name is a fault
-abbrev pub named : Result (List ℕ) NameFault → Work Account FaultKind (List ℕ)
-named (Ok name) = give name
-named (Err fault) = fail kinds.Include
+abbrev pub name_or_fault : Result (List ℕ) NameFault → Work Account FaultKind (List ℕ)
+name_or_fault (Ok name) = give name
+name_or_fault (Err fault) = fail kinds.Include
 
 -- a file that was asked for: if it is missing, that is a fault, unless it may be missing
 abbrev pub found : EvalState → Bool → List ℕ → Option (List ℕ) → Work Account FaultKind Opened
@@ -97,7 +98,7 @@ open_inside place state optional name = deep_enough place.levels >>= λ _. open_
 -- a file under the directory of the including file, or with an absolute name
 abbrev pub open_own : Place → EvalState → Bool → List ℕ → Work Account FaultKind Opened
 open_own place state optional file =
-    deep_enough place.levels >>= λ _. named (resolved (name_under (directory_of place.file) file))
+    deep_enough place.levels >>= λ _. name_or_fault (resolved (name_under (directory_of place.file) file))
     >>= open_named place.files state optional
 
 -- what a makefile is stays what it was first said to be
@@ -106,8 +107,8 @@ first_said roles.Other kind = kind
 first_said before kind = before
 
 -- the state with this said of the makefile
-abbrev pub with_kind : EvalState → Kind → EvalState
-with_kind state kind = record state { kind = first_said state.kind kind }
+abbrev pub with_makefile_kind : EvalState → Kind → EvalState
+with_makefile_kind state kind = record state { kind = first_said state.kind kind }
 
 -- a file of the ports tree that may be missing; if the text is no file name, it is missing
 abbrev pub open_if_there : Place → EvalState → Result (List ℕ) NameFault → Work Account FaultKind Opened
@@ -116,20 +117,20 @@ open_if_there place state (Ok name) = open_inside place state true name
 
 -- the state after the first `<bsd.port.mk>`
 abbrev pub first_port : EvalState → EvalState
-first_port state = record (with_kind state roles.Port) { shared_asked = true }
+first_port state = record (with_makefile_kind state roles.Port) { shared_asked = true }
 
 -- `<bsd.port.mk>`: the makefile is a port's; the first one includes `../Makefile.inc` of the
 -- makefile's directory
 abbrev pub open_port : Place → EvalState → Work Account FaultKind Opened
 open_port place state =
-    if state.shared_asked then give (with_kind state roles.Port, None)
+    if state.shared_asked then give (with_makefile_kind state roles.Port, None)
     else open_if_there place (first_port state) (resolved (name_under (directory_of place.makefile) (codes "../Makefile.inc")))
 
 -- what is opened by an include of a form
 abbrev pub open_form : Place → EvalState → Bool → Form → Work Account FaultKind Opened
 open_form place state optional (OwnFile file) = open_own place state optional file
 open_form place state optional PortFile = open_port place state
-open_form place state optional SubdirFile = give (with_kind state roles.List, None)
+open_form place state optional SubdirFile = give (with_makefile_kind state roles.List, None)
 open_form place state optional SystemFile = give (state, None)
 open_form place state optional NoForm = fail kinds.Include
 

@@ -6,11 +6,11 @@ pub mod Modules
 pub mod Execution
 pub mod Start
 pub mod Meaning
-pub mod Telling
+pub mod Outcome
 pub mod Views
 pub mod FormViews
 pub mod Trees
-pub mod Running
+pub mod Steps
 pub mod LineParts
-pub mod Sharing
+pub mod Agreement
 pub mod Costs

@@ -3,11 +3,11 @@ use Rattle.std.specs.Prelude.{ℕ, Bool, List, map, Option, Some, Result, String
 use Rattle.std.specs.Global.{Global}
 use Rattle.std.specs.declared.rc.Rc.{Rc}
 use Rattle.mk_base.specs.declared.faults.FaultKind.{FaultKind}
-use Rattle.mk_base.specs.declared.stopping.PureStop.{PureStop}
-use Rattle.mk_base.specs.declared.stopping.Stop.{Stop}
+use Rattle.mk_base.specs.declared.stops.PureStop.{PureStop}
+use Rattle.mk_base.specs.declared.stops.Stop.{Stop}
 use Rattle.mk_base.specs.Meter.{Meter}
 use Rattle.mk_base.specs.Outcome.{Work}
-use Rattle.mk_base.specs.Stopping.{GivesPurely}
+use Rattle.mk_base.specs.Stops.{GivesPurely}
 use Rattle.mk_ast.specs.declared.kinds.Directive.{Directive}
 use Rattle.mk_ast.specs.declared.kinds.LineKind.{LineKind}
 use Rattle.mk_ast.specs.declared.kinds.Operator.{Operator}
@@ -15,22 +15,22 @@ use Rattle.mk_ast.specs.Kinds.{line_kind, shown_kind}
 use Rattle.mk_env.specs.Texts.{Variables}
 use Rattle.mk_loop.specs.declared.turn.Iteration.{Iteration}
 use Rattle.mk_loop.specs.declared.turn.Iterations.{Iterations}
-use Rattle.mk_loop.specs.Places.{text_of}
+use Rattle.mk_loop.specs.Places.{made_or_line}
 use Rattle.mk_loop.specs.Scopes.{turns_in}
 use Rattle.mk_paths.specs.World.{FileMap}
 use Rattle.mk_paths.specs.FilesView.{FilesView}
 use Rattle.mk_paths.specs.FileName.{resolved, name_under}
-use Rattle.mk_files.specs.Asking.{Account}
+use Rattle.mk_files.specs.Questions.{Account}
 use Rattle.mk_eval.specs.Lines as lines
 use Rattle.mk_eval.specs.Lines.{Request}
 use Rattle.mk_eval.specs.Heads as heads
 use Rattle.mk_eval.specs.Includes as includes
 use Rattle.mk_eval.specs.Modules as modules
-use Rattle.mk_eval.specs.Running.{Opening, OpensFile}
-use Rattle.mk_eval.specs.Views.{loops_of, place_of}
+use Rattle.mk_eval.specs.Steps.{Opening, OpensFile}
+use Rattle.mk_eval.specs.Views.{loops_of, place_of_file}
 use Rattle.mk_eval.specs.declared.heads.Head.{Head}
-use Rattle.mk_eval.specs.declared.including.ExecutedFile.{ExecutedFile}
-use Rattle.mk_eval.specs.declared.including.Included.{Included}
+use Rattle.mk_eval.specs.declared.includes.ExecutedFile.{ExecutedFile}
+use Rattle.mk_eval.specs.declared.includes.Included.{Included}
 use Rattle.mk_eval.specs.declared.state.EvalState.{EvalState}
 
 -- ---- what a line that frames no block does to variables and a budget, before and after
@@ -68,7 +68,7 @@ AssignsFreely operator name text old new result = (m : Meter) → Assigns operat
 -- a text is given with the words of these loops put in, or none if it stays as it is
 abbrev pub PutsIn : Variables → List Iteration → List ℕ → Result (Option (String Global)) (PureStop FaultKind)
     → Meter → Meter → Type 0
-PutsIn variables loops text result old new = GivesPurely (text_of text) result new (lines.put_in variables (loops_of loops) text old)
+PutsIn variables loops text result old new = GivesPurely (made_or_line text) result new (lines.put_in variables (loops_of loops) text old)
 
 -- what follows the word of a line of this kind is given, with the words of these loops put in
 abbrev pub GivesHead : Variables → List Iteration → LineKind → Result (String Global) (PureStop FaultKind)
@@ -91,7 +91,7 @@ BeginsLoop head result old new =
 -- the condition of such a line, in the makefile of this name
 abbrev pub condition : List ℕ → Head → FileMap → Work Account FaultKind Bool
 condition makefile head files =
-    heads.judge files makefile head.variables.now (loops_of head.loops.now) head.text.now
+    heads.condition_holds files makefile head.variables.now (loops_of head.loops.now) head.text.now
 
 -- ---- what a line opens
 
@@ -103,11 +103,11 @@ OpensInEveryState opening result old new = (state : EvalState) → OpensFile ope
 -- the file that a request asks for, at a line of an executed file
 abbrev pub asked_file : ExecutedFile → Request → Opening FaultKind
 asked_file here request files state =
-    includes.open_form (place_of here files) state request.optional (includes.form_of request.text)
+    includes.open_form (place_of_file here files) state request.optional (includes.form_of request.text)
 
 -- a file that is named in quotes
 abbrev pub own_file : ExecutedFile → List ℕ → Bool → Opening FaultKind
-own_file here file optional files state = includes.open_own (place_of here files) state optional file
+own_file here file optional files state = includes.open_own (place_of_file here files) state optional file
 
 -- the file of a name, which may be missing or may not
 abbrev pub named_file : List ℕ → Bool → Opening FaultKind
@@ -115,18 +115,18 @@ named_file name optional files state = includes.open_named files state optional 
 
 -- the same if files may still include one another
 abbrev pub inner_file : ExecutedFile → List ℕ → Bool → Opening FaultKind
-inner_file here name optional files state = includes.open_inside (place_of here files) state optional name
+inner_file here name optional files state = includes.open_inside (place_of_file here files) state optional name
 
 -- a file under a directory, if it is there
 abbrev pub file_if_there : ExecutedFile → List ℕ → List ℕ → Opening FaultKind
 file_if_there here directory file files state =
-    includes.open_if_there (place_of here files) state (resolved (name_under directory file))
+    includes.open_if_there (place_of_file here files) state (resolved (name_under directory file))
 
 -- what `<bsd.port.mk>` opens
 abbrev pub port_file : ExecutedFile → Opening FaultKind
-port_file here files state = includes.open_port (place_of here files) state
+port_file here files state = includes.open_port (place_of_file here files) state
 
 -- a file of this name in the first of these trees that has one
 abbrev pub first_file : ExecutedFile → List (String Global) → List ℕ → Opening FaultKind
 first_file here trees file files state =
-    modules.open_first (place_of here files) (modules.names_in_trees (map string_bytes trees) (Some file)) state
+    modules.open_first (place_of_file here files) (modules.names_in_trees (map string_bytes trees) (Some file)) state

@@ -16,7 +16,7 @@ use Rattle.mk_ast.specs.Kinds.{BadLine, is_word, line_kind, plain_kind}
 use Rattle.mk_env.specs.Texts.{Variables, appended, text_in, with_text, without_text}
 use Rattle.mk_env.specs.Expansion.{bounded, expand, expand_now}
 use Rattle.mk_loop.specs.LoopWords.{LoopWords}
-use Rattle.mk_loop.specs.Putting.{put_words}
+use Rattle.mk_loop.specs.BodyLine.{put_words}
 
 -- the variables with this text stored under a name; it is a fault if the text is too long
 abbrev pub store : Variables → List ℕ → List ℕ → Work Meter FaultKind Variables
@@ -36,9 +36,9 @@ abbrev pub assign_to : Variables → Operator → List ℕ → List ℕ → Work
 assign_to variables operator text name = if is_word name then assign variables operator name text else fail kinds.Line
 
 -- the variables without those of these names
-abbrev pub without : Variables → List (List ℕ) → Variables
-without variables [] = variables
-without variables (name ∷ names) = without (without_text variables name) names
+abbrev pub without_variables : Variables → List (List ℕ) → Variables
+without_variables variables [] = variables
+without_variables variables (name ∷ names) = without_variables (without_text variables name) names
 
 -- a file that a line asks for: the line's text, expanded, and whether the file may be missing
 pub record Request : Type 0 where
@@ -56,7 +56,7 @@ alone variables = give (variables, None)
 -- `.undef` removes the variable of each word of its expanded text; the two forms of `.include` ask for a
 -- file; any other directive belongs to a block, and is a fault here
 abbrev pub direct : Variables → Directive → List ℕ → Work Meter FaultKind Performed
-direct variables words.Undef text = expand variables text >>= λ found. alone (without variables (words_of found))
+direct variables words.Undef text = expand variables text >>= λ found. alone (without_variables variables (words_of found))
 direct variables words.Include text = expand variables text >>= λ found. give (variables, Some (record { text = found; optional = false }))
 direct variables words.Sinclude text = expand variables text >>= λ found. give (variables, Some (record { text = found; optional = true }))
 direct variables word text = fail kinds.Line

@@ -3,22 +3,22 @@
 use Rattle.std.specs.Prelude.{ℕ, suc, zero, Bool, false, if◌then◌else◌, List, [], Option, Some, None, is_some, unwrap_or, Result, Ok, Err}
 use Rattle.mk_base.specs.declared.faults.FaultKind.{FaultKind}
 use Rattle.mk_base.specs.declared.faults.FaultKind.TheVariants as kinds
-use Rattle.mk_base.specs.declared.metering.TheConstants.{UNITS}
+use Rattle.mk_base.specs.declared.budget.TheConstants.{UNITS}
 use Rattle.mk_base.specs.FaultAt.{FaultAt, fault_at}
 use Rattle.mk_base.specs.Meter.{Meter, full, pay}
 use Rattle.mk_base.specs.Outcome.{Work, give, fail, tell, left, each, ◌>>=◌}
 use Rattle.mk_text.specs.Lines.{LogicalLine}
-use Rattle.mk_ast.specs.declared.parsing.ParseFault.{ParseFault}
+use Rattle.mk_ast.specs.declared.parser.ParseFault.{ParseFault}
 use Rattle.mk_ast.specs.Trees.{Block}
-use Rattle.mk_ast.specs.Parsing.{parsed}
+use Rattle.mk_ast.specs.Parser.{parsed}
 use Rattle.mk_env.specs.Texts.{Variables, text_in}
 use Rattle.mk_env.specs.Expansion.{variable}
 use Rattle.mk_paths.specs.World.{FileMap, World, files_in}
 use Rattle.mk_paths.specs.FilesView.{Question}
-use Rattle.mk_files.specs.Asking.{Account, quietly, look_read}
+use Rattle.mk_files.specs.Questions.{Account, quietly, look_read}
 use Rattle.mk_eval.specs.Expanded.{Expanded}
 use Rattle.mk_eval.specs.Lines.{Loops, perform}
-use Rattle.mk_eval.specs.Heads.{judge, turns}
+use Rattle.mk_eval.specs.Heads.{condition_holds, turns}
 use Rattle.mk_eval.specs.Includes.{Place, Opened, open_request}
 use Rattle.mk_eval.specs.Modules.{asks_modules, module_words, open_module}
 use Rattle.mk_eval.specs.Execution.{LineWorks, execute}
@@ -78,7 +78,7 @@ perform_line entering place loops line state =
 abbrev pub works_at : Entering → Place → LineWorks Account FaultAt EvalState
 works_at entering place = record {
   performs = perform_line entering place;
-  holds = λ loops line state. blamed_at place line (judge place.files place.makefile state.variables loops line.text);
+  holds = λ loops line state. blamed_at place line (condition_holds place.files place.makefile state.variables loops line.text);
   turns = λ loops line state. blamed_at place line (quietly (turns state.variables loops line.text));
   begins = λ line. blamed_at place line (quietly pay);
 }
@@ -103,8 +103,8 @@ file_meaning files makefile (suc levels) name bytes state a =
     (record { files = files; makefile = makefile; file = name; levels = suc levels }) (parsed bytes) state a
 
 -- the state with which an evaluation begins
-abbrev pub opening : World → List ℕ → Option (List (List ℕ)) → EvalState
-opening world name flavors = record {
+abbrev pub opening_state : World → List ℕ → Option (List (List ℕ)) → EvalState
+opening_state world name flavors = record {
   variables = start world.1 name flavors;
   kind = roles.Other;
   shared_asked = false;
@@ -114,15 +114,15 @@ opening world name flavors = record {
 -- what the makefile of this name does, if it is there
 abbrev pub makefile_meaning : World → List ℕ → Option (List (List ℕ)) → Option (List ℕ) → Work Account FaultAt EvalState
 makefile_meaning world name flavors None = fail (at name 0 kinds.Include)
-makefile_meaning world name flavors (Some bytes) = file_meaning (files_in world) name 16 name bytes (opening world name flavors)
+makefile_meaning world name flavors (Some bytes) = file_meaning (files_in world) name 16 name bytes (opening_state world name flavors)
 
 -- an evaluation: the makefile is looked at, which isn't counted among the questions, and is executed
 unfoldable pub evaluation : World → List ℕ → Option (List (List ℕ)) → Work Account FaultAt EvalState
 evaluation world name flavors a = (look_read (files_in world) name >>= makefile_meaning world name flavors) a
 
 -- a budget of this many units, of which nothing is spent, and this log
-abbrev pub fresh : ℕ → Option (List Question) → Account
-fresh limit log = record { meter = full limit; log = log }
+abbrev pub unspent_account : ℕ → Option (List Question) → Account
+unspent_account limit log = record { meter = full limit; log = log }
 
 -- the end of an evaluation with its cost, in units
 abbrev pub evaluated : Result (EvalState × Account) (FaultAt × Account) → Result Evaluated Failed
@@ -131,12 +131,12 @@ evaluated (Err end) = Err (record { fault = end.0; cost = end.1.meter.spent })
 
 -- What a makefile of a world means with these flavors, or with none given, in a budget of 50,000 units.
 abbrev pub means : World → List ℕ → Option (List (List ℕ)) → Result Evaluated Failed
-means world name flavors = evaluated (evaluation world name flavors (fresh UNITS None))
+means world name flavors = evaluated (evaluation world name flavors (unspent_account UNITS None))
 
 -- The names that its evaluation reads or asks about, in a budget of this many units, in order, each with its
 -- answer. That is what the evaluation leaves in a log that was empty.
 abbrev pub questions_asked : World → List ℕ → Option (List (List ℕ)) → ℕ → List Question
-questions_asked world name flavors limit = unwrap_or (left (evaluation world name flavors (fresh limit (Some [])))).log []
+questions_asked world name flavors limit = unwrap_or (left (evaluation world name flavors (unspent_account limit (Some [])))).log []
 
 -- the end of an expansion with its cost, in units
 abbrev pub valued : Result (List ℕ × Meter) (FaultAt × Meter) → Result (Option Expanded) Failed
@@ -145,6 +145,6 @@ valued (Err end) = Err (record { fault = end.0; cost = end.1.spent })
 
 -- the value of a variable after the evaluation of the named makefile; a name that isn't defined has
 -- none, at no cost
-abbrev pub value_of : Variables → List ℕ → List ℕ → Result (Option Expanded) Failed
-value_of variables makefile name =
+abbrev pub value_of_variable : Variables → List ℕ → List ℕ → Result (Option Expanded) Failed
+value_of_variable variables makefile name =
     if is_some (text_in variables name) then valued (tell (at makefile 0) (variable variables name (full UNITS))) else Ok None

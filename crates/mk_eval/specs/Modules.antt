@@ -11,8 +11,9 @@ use Rattle.mk_text.specs.declared.profile.Profile.{Profile}
 use Rattle.mk_text.specs.declared.profile.Profile.TheVariants.{One, Two}
 use Rattle.mk_env.specs.Texts.{Variables, language_of, text_in}
 use Rattle.mk_env.specs.Expansion.{variable}
-use Rattle.mk_paths.specs.FileName.{slash, parts_of, name_under, resolved}
-use Rattle.mk_files.specs.Asking.{Account}
+use Rattle.general_facts.specs.Ascii.{slash}
+use Rattle.mk_paths.specs.FileName.{parts_of_name, name_under, resolved}
+use Rattle.mk_files.specs.Questions.{Account}
 use Rattle.mk_eval.specs.declared.state.EvalState.{EvalState}
 use Rattle.mk_eval.specs.Includes.{Place, Opened, open_if_there}
 
@@ -38,17 +39,17 @@ module_words variables =
     else give []
 
 -- whether a part of a word may name a directory
-abbrev pub is_directory : List ℕ → Bool
-is_directory part = not (bytes_eq part [] || bytes_eq part (codes ".") || bytes_eq part (codes ".."))
+abbrev pub may_name_directory : List ℕ → Bool
+may_name_directory part = not (bytes_eq part [] || bytes_eq part (codes ".") || bytes_eq part (codes ".."))
 
 -- the name of the module that a word with these parts names: the word is `category/name`
 abbrev pub module_name : List (List ℕ) → Option (List ℕ)
-module_name (category ∷ name ∷ []) = if is_directory category && is_directory name then Some name else None
+module_name (category ∷ name ∷ []) = if may_name_directory category && may_name_directory name then Some name else None
 module_name parts = None
 
 -- the file of a module in a tree, `category/name/name.port.mk`; None for a word of another form
 abbrev pub module_file : List ℕ → Option (List ℕ)
-module_file word = option_map (λ name. word ++ slash ∷ name ++ codes ".port.mk") (module_name (parts_of word))
+module_file word = option_map (λ name. word ++ slash ∷ name ++ codes ".port.mk") (module_name (parts_of_name word))
 
 -- the names that a file has in some trees
 abbrev pub names_in_trees : List (List ℕ) → Option (List ℕ) → List (List ℕ)

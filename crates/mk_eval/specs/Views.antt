@@ -8,8 +8,8 @@ use Rattle.mk_loop.specs.declared.turn.Iteration.{Iteration}
 use Rattle.mk_loop.specs.Scopes.{turn_words, words_in, words_in-inside, words_in-alike}
 use Rattle.mk_eval.specs.Lines.{Loops, inside_turn}
 use Rattle.mk_eval.specs.Includes.{Place, File}
-use Rattle.mk_eval.specs.declared.including.ExecutedFile.{ExecutedFile}
-use Rattle.mk_eval.specs.declared.including.Included.{Included}
+use Rattle.mk_eval.specs.declared.includes.ExecutedFile.{ExecutedFile}
+use Rattle.mk_eval.specs.declared.includes.Included.{Included}
 
 -- the loops around a line, of which the innermost is the last
 abbrev pub loops_of : List Iteration → Loops
@@ -35,8 +35,8 @@ abbrev pub flavors_in : Option (Bor (List (String Global))) → Option (List (Li
 flavors_in flavors = option_map (λ given. map string_bytes given.now) flavors
 
 -- the place of an executed file, among these files
-abbrev pub place_of : ExecutedFile → FileMap → Place
-place_of here files =
+abbrev pub place_of_file : ExecutedFile → FileMap → Place
+place_of_file here files =
     record {
       files = files;
       makefile = here.makefile.now;
@@ -45,5 +45,5 @@ place_of here files =
     }
 
 -- a file that is to be executed
-abbrev pub file_of : Included → File
-file_of included = (included.name, included.content)
+abbrev pub included_file : Included → File
+included_file included = (included.name, included.content)

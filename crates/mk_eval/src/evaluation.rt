@@ -1,8 +1,8 @@
 //! The value of a variable after an evaluation.
-ghost use Rattle.mk_eval.specs.Meaning.{value_of};
-ghost use Rattle.mk_eval.specs.Telling.{TellsPurely, CostsPurelyAtMost};
+ghost use Rattle.mk_eval.specs.Meaning.{value_of_variable};
+ghost use Rattle.mk_eval.specs.Outcome.{TellsPurely, CostsPurelyAtMost};
 ghost use Rattle.mk_eval.specs.Expanded.{value_cost};
-ghost use Rattle.mk_base.specs.declared.metering.TheConstants.{UNITS};
+ghost use Rattle.mk_base.specs.declared.budget.TheConstants.{UNITS};
 
 use crate::outcome::{Evaluated, Failed, Valued, with_units};
 use mk_base::{Budget, PureStop, UNITS};
@@ -21,7 +21,7 @@ pub fn value(
     name: &Name,
     variable: &str,
 ) -> Result<Option<Valued>, PureStop<Failed>>
-    ensures means { TellsPurely (λ x. x) result (value_of evaluated.now.env name.now variable.now) }
+    ensures means { TellsPurely (λ x. x) result (value_of_variable evaluated.now.env name.now variable.now) }
     ensures within { CostsPurelyAtMost value_cost UNITS result }
 {
     if !evaluated.env.defined(variable) {

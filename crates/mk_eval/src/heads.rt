@@ -2,10 +2,10 @@
 ghost use Rattle.std.specs.Prelude.{◌≡◌, IfOk};
 ghost use Rattle.mk_base.specs.Meter.{IsLater};
 ghost use Rattle.mk_ast.specs.Kinds.{shown_kind};
-ghost use Rattle.mk_files.specs.Working.{Asks};
+ghost use Rattle.mk_files.specs.Work.{Asks};
 ghost use Rattle.mk_eval.specs.Heads as heads;
 ghost use Rattle.mk_eval.specs.LineParts.{PutsIn, GivesHead, GivesHeader, BeginsLoop, condition};
-ghost use Rattle.mk_eval.specs.Running.{Pays, Judges};
+ghost use Rattle.mk_eval.specs.Steps.{Pays, Judges};
 
 use cond_grammar::Call;
 use mk_ast::{Directive, LineKind, line_kind};

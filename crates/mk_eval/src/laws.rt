@@ -1,6 +1,6 @@
 //! What holds of all evaluations. The functions do nothing: their clauses are the laws.
 ghost use Rattle.mk_eval.specs.Costs.{CostFew};
-ghost use Rattle.mk_eval.specs.Sharing.{IsTheSameWhereAnswered};
+ghost use Rattle.mk_eval.specs.Agreement.{IsTheSameWhereAnswered};
 
 /// Take any world with the same settings that gives the answers that an evaluation got. In it the
 /// makefile means the same, at the same cost, and asks the same.

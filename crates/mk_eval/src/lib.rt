@@ -3,29 +3,29 @@
 #![tactic(auto)]
 
 mod evaluation;
-mod executing;
 mod forms;
 mod heads;
-mod including;
+mod includes;
 mod laws;
+mod lines;
 mod modules;
 mod outcome;
 mod parses;
 mod requests;
-mod running;
-mod starting;
+mod start_variables;
 mod state;
+mod steps;
 mod turns;
 
 pub use evaluation::value;
-pub use executing::perform;
-pub use including::{ExecutedFile, Included};
+pub use includes::{ExecutedFile, ExecutedLine, Included};
 pub use laws::{evaluations_cost_few, same_where_answered};
+pub use lines::perform;
 pub use modules::{may_ask_modules, module_words, open_module};
 pub use outcome::{Evaluated, Failed, Kind, Valued, with_units};
 pub use parses::{Anew, Parses};
 pub use requests::Request;
-pub use running::{holds, open_line};
-pub use starting::start;
+pub use start_variables::start;
 pub use state::EvalState;
+pub use steps::{holds, open_line};
 pub use turns::{begin_turn, loops_at, turns_at};

@@ -1,14 +1,14 @@
 //! The modules that a port names.
 ghost use Rattle.std.specs.Prelude.{◌≡◌, IfOk, map, option_map, string_bytes};
 ghost use Rattle.mk_base.specs.Meter.{IsLater};
-ghost use Rattle.mk_files.specs.Working.{Asks};
+ghost use Rattle.mk_files.specs.Work.{Asks};
 ghost use Rattle.text_parts.specs.Cuts.{now_all};
 ghost use Rattle.mk_text.specs.Words as splits;
 ghost use Rattle.mk_eval.specs.Modules as modules;
 ghost use Rattle.mk_eval.specs.LineParts.{OpensInEveryState, first_file};
-ghost use Rattle.mk_eval.specs.Running.{MayOpen, OpensFile, GivesWords, module_at, words_at};
+ghost use Rattle.mk_eval.specs.Steps.{MayOpen, OpensFile, GivesWords, module_at, words_at};
 
-use crate::including::{ExecutedFile, Included, open_if_there};
+use crate::includes::{ExecutedFile, ExecutedLine, Included, open_if_there};
 use crate::state::EvalState;
 use mk_base::{Budget, Fault, FaultKind, PureStop, Stop};
 use mk_env::{Env, expand_variable};
@@ -41,17 +41,16 @@ fn has_modules(profile: Profile) -> bool
 /// At the line, the faults are those of `mk_env::expand_variable`. The other error is that memory runs out.
 pub fn module_words(
     alloc: Global,
-    here: ExecutedFile<'_>,
-    line: u64,
+    line: ExecutedLine<'_>,
     state: &EvalState,
     budget: &mut Budget,
 ) -> Result<Vec<String>, PureStop<Fault>>
-    ensures gives { GivesWords result (words_at here.entry line state.now) budget.old budget.new }
+    ensures gives { GivesWords result (words_at line.entry state.now) budget.old budget.new }
     ensures later { IsLater budget.old budget.new }
 {
     match expanded_words(alloc, &state.variables, budget) {
         Ok(words) => Ok(words),
-        Err(stop) => Err(stop.blame(alloc, here.file.as_str(), line)),
+        Err(stop) => Err(stop.blame(alloc, line.here.file.as_str(), line.number)),
     }
 }
 
@@ -93,25 +92,24 @@ fn words_of(alloc: Global, text: &str) -> Result<Vec<String>, AllocError>
 /// memory runs out.
 pub fn open_module<F: Files>(
     alloc: Global,
-    here: ExecutedFile<'_>,
-    line: u64,
+    line: ExecutedLine<'_>,
     state: &EvalState,
     word: &str,
     files: &mut F,
     budget: &mut Budget,
 ) -> Result<Option<Included>, Stop<Fault>>
-    ensures gives { OpensFile (module_at here.entry line word.now) (state.now, state.now) result
+    ensures gives { OpensFile (module_at line.entry word.now) (state.now, state.now) result
         (budget.old, F.view files.old) (budget.new, F.view files.new) }
     ensures asks { Asks F.fails_with result (F.view files.old) (F.view files.new) }
     ensures later { IsLater budget.old budget.new }
-    ensures opens { IfOk result (MayOpen here.entry.levels) }
+    ensures opens { IfOk result (MayOpen line.entry.here.levels) }
 {
     let opened = match module_file(alloc, word) {
         Ok(None) => Ok(None),
         Ok(Some(file)) => {
             open_first(
                 alloc,
-                here,
+                line.here,
                 state.path.trees(),
                 file.as_str(),
                 files,
@@ -122,7 +120,7 @@ pub fn open_module<F: Files>(
     };
     match opened {
         Ok(opened) => Ok(opened),
-        Err(stop) => Err(stop.blame(alloc, here.file.as_str(), line)),
+        Err(stop) => Err(stop.blame(alloc, line.here.file.as_str(), line.number)),
     }
 }
 
@@ -177,7 +175,7 @@ fn module_name<'a>(parts: &[&'a str]) -> Option<&'a str>
 
 /// Whether a part of a word may name a directory.
 fn is_directory(part: &str) -> bool
-    ensures { result ≡ modules.is_directory part.now }
+    ensures { result ≡ modules.may_name_directory part.now }
 {
     match part {
         "" | "." | ".." => false,

@@ -1,5 +1,5 @@
 ghost use Rattle.std.specs.Prelude.{◌≡◌, string_bytes};
-ghost use Rattle.mk_eval.specs.Telling as telling;
+ghost use Rattle.mk_eval.specs.Outcome as outcome;
 
 use mk_base::{Fault, PureStop};
 use mk_env::Env;
@@ -79,7 +79,7 @@ impl Valued {
 
 /// The stop of work that looks at no file; a fault gets the units that were spent.
 pub fn with_units(stop: PureStop<Fault>, cost: u64) -> PureStop<Failed>
-    ensures { result ≡ telling.with_units cost stop }
+    ensures { result ≡ outcome.with_units cost stop }
 {
     match stop {
         PureStop::Fault(fault) => PureStop::Fault(Failed { fault, cost }),

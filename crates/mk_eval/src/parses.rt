@@ -1,8 +1,8 @@
 //! How a file's bytes become its tree.
 ghost use Rattle.std.specs.Prelude.{◌≡◌, refl, IfOk};
 ghost use Rattle.std.proofs.Common.{◌∙◌};
-ghost use Rattle.mk_ast.specs.Parsing.{parsed};
-ghost use Rattle.mk_eval.specs.Trees.{tree_in};
+ghost use Rattle.mk_ast.specs.Parser.{parsed};
+ghost use Rattle.mk_eval.specs.Trees.{tree_or_fault};
 
 use mk_ast::{Makefile, ParseError, ParseFault, parse};
 use mk_files::Content;
@@ -18,7 +18,7 @@ pub trait Parses {
 
     /// The tree of these bytes, or their fault. It fails only if memory runs out.
     fn parsed(&mut self, content: &Content) -> Result<Result<Rc<Makefile>, ParseFault>, AllocError>
-        ensures tree { IfOk result (λ found. tree_in found ≡ parsed content.now) }
+        ensures tree { IfOk result (λ found. tree_or_fault found ≡ parsed content.now) }
         ensures left { becomes self.old self.new };
 
     ghost stays: { (parses : Self) → becomes parses parses };

@@ -2,10 +2,10 @@
 ghost use Rattle.std.specs.Prelude.{◌<◌, IfOk, length};
 ghost use Rattle.mk_base.specs.Meter.{IsLater};
 ghost use Rattle.mk_loop.specs.Scopes.{turns_in};
-ghost use Rattle.mk_eval.specs.Running.{Pays, LoopAt, PaysAt, GoesInside};
+ghost use Rattle.mk_eval.specs.Steps.{Pays, LoopAt, PaysAt, GoesInside};
 
 use crate::heads::{Head, loop_turns};
-use crate::including::ExecutedFile;
+use crate::includes::{ExecutedFile, ExecutedLine};
 use crate::state::EvalState;
 use mk_base::{Budget, Fault, PureStop};
 use mk_loop::{Iteration, Iterations, inside};
@@ -38,22 +38,21 @@ pub fn turns_at(
     }
 }
 
-/// Spends the unit of an iteration.
+/// Spends the unit of an iteration of the loop that this line begins.
 ///
-/// It is `Budget` at the loop's line if no unit is left. The other error is that memory runs out.
+/// It is `Budget` at the line if no unit is left. The other error is that memory runs out.
 pub fn begin_turn(
     alloc: Global,
-    here: ExecutedFile<'_>,
-    line: u64,
+    line: ExecutedLine<'_>,
     budget: &mut Budget,
 ) -> Result<(), PureStop<Fault>>
-    ensures gives { PaysAt here.entry line result budget.old budget.new }
+    ensures gives { PaysAt line.entry result budget.old budget.new }
     ensures later { IsLater budget.old budget.new }
     ensures paid { IfOk result (λ _. Pays budget.old budget.new) }
 {
     match budget.pay() {
         Ok(()) => Ok(()),
-        Err(kind) => Err(PureStop::Fault(kind).blame(alloc, here.file.as_str(), line)),
+        Err(kind) => Err(PureStop::Fault(kind).blame(alloc, line.here.file.as_str(), line.number)),
     }
 }
 

@@ -12,7 +12,7 @@ use Rattle.std.proofs.lemmas.Map.Text.{btree_map_updates_text, is_eq-slice_cmp}
 use Rattle.general_facts.specs.Maps.{same_map}
 use Rattle.general_facts.specs.Texts.{bytes_eq-sym}
 use Rattle.mk_paths.specs.World.{FileMap}
-use Rattle.mk_files.specs.Holding.{files_of}
+use Rattle.mk_files.specs.MemoryFiles.{files_of}
 
 -- the content that a name has among these entries
 abbrev pub content_at : List (String Global × List ℕ) → List ℕ → Option (List ℕ)

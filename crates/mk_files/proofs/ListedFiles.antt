@@ -9,7 +9,7 @@ use Rattle.std.specs.FinMap as finite
 use Rattle.std.specs.FinMap.Entries.{put, by_order, is_sorted, below_all}
 use Rattle.std.specs.String.{string_cmp}
 use Rattle.general_facts.specs.Bools.{Less_from_is_lt}
-use Rattle.mk_files.specs.Holding.{files_of}
+use Rattle.mk_files.specs.MemoryFiles.{files_of}
 
 abbrev Entries : Type 0
 Entries = List (List ℕ × List ℕ)

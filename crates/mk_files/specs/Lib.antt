@@ -1,5 +1,5 @@
-pub mod Holding
-pub mod Asking
-pub mod Looking
-pub mod Working
+pub mod MemoryFiles
+pub mod Questions
+pub mod AfterQuestions
+pub mod Work
 pub mod Limits

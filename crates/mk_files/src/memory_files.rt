@@ -1,10 +1,10 @@
 // A world of files kept in memory.
-ghost use Rattle.std.specs.Prelude.{◌≡◌, map as map_list, string_bytes, IfOk, OnOk, OnErr};
+ghost use Rattle.std.specs.Prelude.{◌≡◌, OnOk, OnErr};
 ghost use Rattle.refusals.specs.Refused.{refused};
 ghost use Rattle.std.specs.Option.{option_copied};
 ghost use Rattle.std.specs.FinMap as map;
 ghost use Rattle.mk_paths.specs.FilesView.{Fails};
-ghost use Rattle.mk_files.specs.Holding.{nothing, with_file, without_file, view_of, IsMemory, files_of};
+ghost use Rattle.mk_files.specs.MemoryFiles.{empty_holding, with_file, without_file, view_of, IsMemory, files_of, ListsNames};
 
 use crate::shared::Content;
 use crate::worlds::{Files, Listing};
@@ -22,7 +22,7 @@ pub struct MemoryFiles {
 }
 
 impl Model for MemoryFiles {
-    ghost use Rattle.mk_files.specs.Holding.{Holding, holding_code, files_of};
+    ghost use Rattle.mk_files.specs.MemoryFiles.{Holding, holding_code, files_of};
 
     ghost Value = { Holding };
 
@@ -34,7 +34,7 @@ impl Model for MemoryFiles {
 impl MemoryFiles {
     /// No file at all. It takes no memory.
     pub fn new(alloc: Global) -> MemoryFiles
-        ensures { result ≡ nothing }
+        ensures { result ≡ empty_holding }
     {
         MemoryFiles {
             files: BTreeMap::new(alloc),
@@ -110,8 +110,7 @@ impl Listing for MemoryFiles {
 
 // The names of these files, in the order of their bytes.
 fn names_of(alloc: Global, files: &BTreeMap<String, Content>) -> Result<Vec<String>, AllocError>
-    ensures { IfOk result (λ names. map_list string_bytes names.items
-        ≡ map.keys (files_of files.now.entries)) }
+    ensures { ListsNames result (files_of files.now.entries) }
 {
     let mut names = Vec::new(alloc);
     for name in files.keys() {

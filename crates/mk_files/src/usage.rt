@@ -1,6 +1,6 @@
 // How many files a tenant has, and how many bytes.
-ghost use Rattle.std.specs.Prelude.{◌≡◌, ◌≤◌, false, IfSome, IfNone, IsTrue, unwrap_or};
-ghost use Rattle.mk_files.specs.Limits.{files_with, bytes_with, passes};
+ghost use Rattle.std.specs.Prelude.{◌≡◌, ◌≤◌, false, IfSome, unwrap_or};
+ghost use Rattle.mk_files.specs.Limits.{files_with, bytes_with, exceeds_limits, IsOverWith};
 
 /// The most files that a tenant may have.
 pub const MOST_FILES: usize = 2000;
@@ -22,9 +22,8 @@ impl Usage {
         requires { unwrap_or old 0 ≤ self.bytes }
         ensures files { IfSome result (λ usage. usage.files ≡ files_with self.files old) }
         ensures bytes { IfSome result (λ usage. usage.bytes ≡ bytes_with self.bytes old length) }
-        ensures fits { IfSome result (λ usage. passes usage.files usage.bytes ≡ false) }
-        ensures over { IfNone result (IsTrue
-            (passes (files_with self.files old) (bytes_with self.bytes old length))) }
+        ensures fits { IfSome result (λ usage. exceeds_limits usage.files usage.bytes ≡ false) }
+        ensures over { IsOverWith result self old length }
     {
         if length > MOST_BYTES {
             return None;

@@ -1,7 +1,7 @@
 // Worlds of files that can be read.
-ghost use Rattle.std.specs.Prelude.{◌≡◌, map, string_bytes, IfOk, IfErr, OnOk, OnErr};
-ghost use Rattle.std.specs.FinMap.{keys};
-ghost use Rattle.mk_paths.specs.FilesView.{Contents, Answers, Fails};
+ghost use Rattle.std.specs.Prelude.{◌≡◌, IfErr, OnOk, OnErr};
+ghost use Rattle.mk_paths.specs.FilesView.{Fails, AnswersContents};
+ghost use Rattle.mk_files.specs.MemoryFiles.{ListsNames};
 
 use crate::shared::Content;
 use mk_paths::{FilesFault, Name, Names};
@@ -18,8 +18,7 @@ pub trait Files: Names {
     /// the map and the log as they are. It adds one to the count of failures, which goes no higher
     /// than 2^64 - 1.
     fn read(&mut self, name: &Name) -> Result<Option<Content>, FilesFault>
-        ensures answer { IfOk result (λ content. Answers (Self.view self.old)
-            (Self.view self.new) name.now (Contents content)) }
+        ensures answer { AnswersContents result (Self.view self.old) (Self.view self.new) name.now }
         ensures fault { OnErr result (Fails (Self.view self.old) (Self.view self.new)) }
         ensures kind { IfErr result Self.fails_with };
 }
@@ -38,8 +37,7 @@ pub trait Listing: Files {
     /// Listing isn't a question, and nothing is added to the log. A fault leaves the map and the log as
     /// they are. It adds one to the count of failures, which goes no higher than 2^64 - 1.
     fn names(&mut self, alloc: Global) -> Result<Vec<String>, FilesFault>
-        ensures names { IfOk result (λ names. map string_bytes names.items
-            ≡ keys (Self.view self.old).files) }
+        ensures names { ListsNames result (Self.view self.old).files }
         ensures same { OnOk result (Self.view self.new ≡ Self.view self.old) }
         ensures fault { OnErr result (Fails (Self.view self.old) (Self.view self.new)) }
         ensures kind { IfErr result Self.fails_with };

@@ -7,19 +7,19 @@ use Rattle.std.proofs.lemmas.Option.{same_Some}
 use Rattle.mk_glob.specs.declared.signs.PatternSign.{PatternSign}
 use Rattle.mk_glob.specs.declared.signs.PatternSign.TheVariants.{Bare, Plain}
 use Rattle.mk_glob.specs.Signs.{character, is_bare, signs_of}
-use Rattle.mk_glob.specs.Reading.{BeginsWithSign}
+use Rattle.mk_glob.specs.FirstSigns.{BeginsWithSign}
 use Rattle.mk_glob.proofs.SignLemmas.{signs_of-empty}
-use Rattle.mk_glob.specs.Items.{Range, alone, members, Bracketed, onto_inside, up_to_close, bracketed, bracket, is_within, is_among}
-use Rattle.mk_glob.specs.Brackets.{MakesNoRange, MakesRange, EndsRange, HasMembers, TestsBracket}
+use Rattle.mk_glob.specs.Items.{Range, range_of_one, members, Bracketed, onto_inside, up_to_close, bracketed, bracket, is_within, is_in_some_range}
+use Rattle.mk_glob.specs.Brackets.{MakesNoRange, MakesRange, EndsRange, HasBracketMembers, TestsBracket}
 use Rattle.mk_glob.proofs.EndLemmas.{map_some, map_none}
 
 -- whether a character was found or is among members, and what follows them
 abbrev pub told : ℕ → Bool → Bracketed → Bool × List PatternSign
-told c found b = (found || is_among (members b.inside) c, b.behind)
+told c found b = (found || is_in_some_range (members b.inside) c, b.behind)
 
 -- the same where nothing was read of them
 abbrev pub told_all : ℕ → Bracketed → Bool × List PatternSign
-told_all c b = (is_among (members b.inside) c, b.behind)
+told_all c b = (is_in_some_range (members b.inside) c, b.behind)
 
 -- the same where the first sign was read
 abbrev pub told_low : ℕ → Bool → PatternSign → Bracketed → Bool × List PatternSign
@@ -41,7 +41,7 @@ abbrev with_answer : Bracketed → Bool → Bool × List PatternSign
 with_answer b x = (x, b.behind)
 
 abbrev with_ranges : ℕ → Bool → Bracketed → List Range → Bool × List PatternSign
-with_ranges c found b l = (found || is_among l c, b.behind)
+with_ranges c found b l = (found || is_in_some_range l c, b.behind)
 
 begun : (c : ℕ) (low : PatternSign) (o : Option Bracketed)
     → option_map (told_all c) (option_map (onto_inside low) o)
@@ -57,9 +57,9 @@ none_is_none b e = cc
 
 -- the same where the sign before and one more are read
 second_alone : (low s t : PatternSign) (rest : List PatternSign) (b : Bracketed) → MakesNoRange (s ∷ t ∷ rest) → up_to_close (t ∷ rest) ≡ Some b
-    → members (low ∷ s ∷ b.inside) ≡ alone (character low) ∷ members (s ∷ b.inside)
+    → members (low ∷ s ∷ b.inside) ≡ range_of_one (character low) ∷ members (s ∷ b.inside)
 second_alone low s t rest b free e =
-    let P : Bracketed → Type 0 = λ x. members (low ∷ s ∷ x.inside) ≡ alone (character low) ∷ members (s ∷ x.inside) in
+    let P : Bracketed → Type 0 = λ x. members (low ∷ s ∷ x.inside) ≡ range_of_one (character low) ∷ members (s ∷ x.inside) in
     elim (cases_Bool (is_bare 93 t)) [
       | inl closes ↦ subst P (same_Some _ b (sym (cond-true (is_bare 93 t) _ _ closes) ∙ e)) refl
       | inr more ↦
@@ -72,16 +72,16 @@ second_alone low s t rest b free e =
 
 -- where no range is made the sign before is a member alone
 alone_member : (low : PatternSign) (rest : List PatternSign) (b : Bracketed) → MakesNoRange rest → up_to_close rest ≡ Some b
-    → members (low ∷ b.inside) ≡ alone (character low) ∷ members b.inside
+    → members (low ∷ b.inside) ≡ range_of_one (character low) ∷ members b.inside
 alone_member low [] b free e = absurd (none_is_none b e)
 alone_member low (s ∷ []) b free e = elim (cases_Bool (is_bare 93 s)) [
   | inl closes ↦
-      let P : Bracketed → Type 0 = λ x. members (low ∷ x.inside) ≡ alone (character low) ∷ members x.inside in
+      let P : Bracketed → Type 0 = λ x. members (low ∷ x.inside) ≡ range_of_one (character low) ∷ members x.inside in
       subst P (same_Some _ b (sym (cond-true (is_bare 93 s) _ _ closes) ∙ e)) refl
   | inr more ↦ absurd (none_is_none b (sym (cond-false (is_bare 93 s) _ _ more) ∙ e))
 ]
 alone_member low (s ∷ t ∷ rest) b free e =
-    let P : Bracketed → Type 0 = λ x. members (low ∷ x.inside) ≡ alone (character low) ∷ members x.inside in
+    let P : Bracketed → Type 0 = λ x. members (low ∷ x.inside) ≡ range_of_one (character low) ∷ members x.inside in
     elim (cases_Bool (is_bare 93 s)) [
       | inl closes ↦ subst P (same_Some _ b (sym (cond-true (is_bare 93 s) _ _ closes) ∙ e)) refl
       | inr more ↦
@@ -108,9 +108,9 @@ ranged : (c : ℕ) (found : Bool) (low dash high : PatternSign) (o : Option Brac
 ranged c found low dash high None e = refl
 ranged c found low dash high (Some b) e =
     let ranges = cond-true (is_bare 45 dash) (record { low = character low; high = character high } ∷ members b.inside)
-    (alone (character low) ∷ members (dash ∷ high ∷ b.inside)) e in
+    (range_of_one (character low) ∷ members (dash ∷ high ∷ b.inside)) e in
     ap Some (ap (λ l. with_ranges c found b l) ranges
-    ∙ ap (λ x. with_answer b x) (or_joined found (is_within (character low) (character high) c) (is_among (members b.inside) c)))
+    ∙ ap (λ x. with_answer b x) (or_joined found (is_within (character low) (character high) c) (is_in_some_range (members b.inside) c)))
 
 -- a member is read: a range up to its end, or a sign alone
 pub after_low-range : (c : ℕ) (found : Bool) (low : PatternSign) (rest : List PatternSign) (end : ℕ) (behind : List PatternSign) → MakesRange rest end behind
@@ -135,7 +135,7 @@ after_low-alone c found low rest free =
     (up_to_close rest)
     (λ b e.
     ap (λ l. with_ranges c found b l) (alone_member low rest b free e)
-    ∙ ap (λ x. with_answer b x) (or_joined found (is_within (character low) (character low) c) (is_among (members b.inside) c)))
+    ∙ ap (λ x. with_answer b x) (or_joined found (is_within (character low) (character low) c) (is_in_some_range (members b.inside) c)))
 
 -- what follows a member closes, or begins the next
 pub after_end-closes : (c : ℕ) (found : Bool) (sign : PatternSign) (rest : List PatternSign) → is_bare 93 sign ≡ true
@@ -165,9 +165,9 @@ found_of p = p.0
 abbrev after_of : Bool × List PatternSign → List PatternSign
 after_of p = p.1
 
-pub HasMembers-from_told : (c : ℕ) (body : List PatternSign) (found : Bool) (behind : List PatternSign) → of_body c body ≡ Some (found, behind)
-    → HasMembers body c found behind
-HasMembers-from_told c body found behind e =
+pub HasBracketMembers-from_told : (c : ℕ) (body : List PatternSign) (found : Bool) (behind : List PatternSign) → of_body c body ≡ Some (found, behind)
+    → HasBracketMembers body c found behind
+HasBracketMembers-from_told c body found behind e =
     let at = map_some (told_all c) (bracketed body) (found, behind) e in record {
       inside = at.0.inside;
       stands = at.1 ∙ ap (λ x. Some record { inside = at.0.inside; behind = x }) (sym (ap after_of at.2));

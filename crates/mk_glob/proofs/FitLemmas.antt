@@ -5,7 +5,7 @@ use Rattle.std.specs.Prelude.{◌↔◌, IsTrue}
 use Rattle.std.specs.Str.{chars}
 use Rattle.std.proofs.lemmas.Bool.{or_cases, or_left, or_right, and_parts, and_from, false≢true}
 use Rattle.mk_glob.specs.Items.{Item, any_run, one_of, Range, admits, items_of}
-use Rattle.mk_glob.specs.Matching.{EachAllows, Fits, some_end, fits_items, fits}
+use Rattle.mk_glob.specs.Matcher.{EachAllows, Fits, some_end, fits_items, fits}
 use Rattle.mk_glob.specs.Laws.{FitsWhereCut}
 
 pub some_end-whole : (test : List ℕ → Bool) (word : List ℕ) → test word ≡ true → some_end test word ≡ true

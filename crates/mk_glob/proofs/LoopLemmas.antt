@@ -1,16 +1,16 @@
 -- A word matched item by item: what is left, and the last run, to which the matching goes back.
-use Rattle.std.proofs.Common.{◌≡◌, ℕ, suc, ◌+◌, ◌*◌, ◌<◌, ◌≤◌, Bool, true, false, ◌&&◌, ◌||◌, List, [], ◌∷◌, length, refl, ap, sym, ◌∙◌, subst, arith, Option, Some, None}
+use Rattle.std.proofs.Common.{◌≡◌, ℕ, suc, ◌+◌, ◌*◌, ◌<◌, ◌≤◌, Bool, true, false, ◌&&◌, ◌||◌, List, [], ◌∷◌, length, refl, ap, sym, ◌∙◌, subst, arith, Option, Some, None, MatchOption}
 use Rattle.std.proofs.Math.Bool.{or-false}
 use Rattle.std.proofs.Math.Nat.{mul-le-mul_right}
 use Rattle.std.proofs.lemmas.Bool.{or_right}
 use Rattle.std.specs.Prelude.{◌↔◌, IsTrue}
 use Rattle.std.specs.Str.{chars}
 use Rattle.mk_glob.specs.declared.signs.PatternSign.{PatternSign}
-use Rattle.mk_glob.specs.declared.matching.Rest.{Rest}
+use Rattle.mk_glob.specs.declared.matcher.Rest.{Rest}
 use Rattle.mk_glob.specs.Signs.{signs_of}
 use Rattle.mk_glob.specs.Items.{any_run, one_of, First, first_at, items, items_of}
-use Rattle.mk_glob.specs.Matching.{Fits, some_end, fits_items, fits}
-use Rattle.mk_glob.specs.Steps.{UnclosedWithin, Learns, IsAfterRun, IsAfterOne, IsOneFurther}
+use Rattle.mk_glob.specs.Matcher.{Fits, some_end, fits_items, fits}
+use Rattle.mk_glob.specs.Steps.{UnclosedWithin, Learns, IsAfterRun, IsAfterOne, IsOneFurther, GoesFurther}
 use Rattle.mk_glob.proofs.EndLemmas.{EndsIn, ends_along, ends_shorter, first_at-ends, items-cons, UnclosedWithin-learnt}
 use Rattle.mk_glob.proofs.FitLemmas.{some_end-twice, some_end-one, fits_where_cut}
 use Rattle.mk_glob.proofs.StepLemmas.{bare_sign}
@@ -153,8 +153,8 @@ Goes-one pattern word rest back unclosed learnt behind goes learns one =
       shorter = let n = ap length one.word in let m = goes.shorter in omega arith;
     }
 
--- where what is left doesn't fit, the last run takes one character more
-pub Goes-further : (pattern word : List ℕ) (rest back : Rest) (unclosed learnt : ℕ) (further : Rest)
+-- after one character more for the last run, where what is left didn't fit
+Goes-further : (pattern word : List ℕ) (rest back : Rest) (unclosed learnt : ℕ) (further : Rest)
     → Goes pattern word rest (Some back) unclosed → Learns (signs_of rest.pattern.now) unclosed learnt
     → fits rest.pattern.now rest.word.now ≡ false → IsOneFurther back further
     → Goes pattern word further (Some further) learnt
@@ -187,8 +187,23 @@ pub fits-stuck : (pattern word : List ℕ) (rest : Rest) (back : Option Rest) (u
 fits-stuck pattern word rest back unclosed goes refused none =
     goes.same ∙ ap (λ b. b || by_back back) refused ∙ none
 
-pub by_back-word_over : (back : Rest) → chars back.word.now ≡ [] → by_back (Some back) ≡ false
-by_back-word_over back e = ap (some_later (fits_items (items_of back.pattern.now))) e
+-- what is left if the last run takes one character more: none without a run, or without a character for it
+abbrev pub TakesMore : Option Rest → Option Rest → Type 0
+TakesMore back more = MatchOption back (more ≡ None) (λ last. GoesFurther last more)
+
+-- where the last run can't take one character more, the word doesn't fit by a longer one
+pub by_back-over : (back : Option Rest) → TakesMore back None → by_back back ≡ false
+by_back-over None over = refl
+by_back-over (Some last) over = ap (some_later (fits_items (items_of last.pattern.now))) over
+
+-- where what is left doesn't fit, the last run takes one character more
+pub Goes-more : (pattern word : List ℕ) (rest : Rest) (back : Option Rest) (unclosed learnt : ℕ) (further : Rest)
+    → Goes pattern word rest back unclosed → Learns (signs_of rest.pattern.now) unclosed learnt
+    → fits rest.pattern.now rest.word.now ≡ false → TakesMore back (Some further)
+    → Goes pattern word further (Some further) learnt
+Goes-more pattern word rest None unclosed learnt further goes learns refused more = cc
+Goes-more pattern word rest (Some last) unclosed learnt further goes learns refused more =
+    Goes-further pattern word rest last unclosed learnt further goes learns refused more
 
 pub cut_where_fits : (pattern word : List ℕ) (found : Bool) → found ≡ fits pattern word → IsTrue found ↔ Fits (items_of pattern) (chars word)
 cut_where_fits pattern word found e =
@@ -211,7 +226,7 @@ left-one pattern word rest back unclosed behind goes one =
     subst (λ f. EndsIn one.more (First.behind f)) one.tells.stands (first_at-ends one.sign one.more) in
     let m = ends_shorter one.more (signs_of behind.pattern.now) later in omega arith
 
-pub left-further : (pattern word : List ℕ) (rest back further : Rest) (unclosed : ℕ) → Goes pattern word rest (Some back) unclosed
+left-further : (pattern word : List ℕ) (rest back further : Rest) (unclosed : ℕ) → Goes pattern word rest (Some back) unclosed
     → IsOneFurther back further → left pattern word further (Some further) < left pattern word rest (Some back)
 left-further pattern word rest back further unclosed goes one =
     let n = ap length one.word in
@@ -220,3 +235,8 @@ left-further pattern word rest back further unclosed goes one =
     let m = ends_shorter (signs_of pattern) (signs_of further.pattern.now) inside in
     falls_second (length (chars further.word.now)) (length (chars back.word.now)) (length (signs_of pattern))
     (length (signs_of further.pattern.now)) (length (signs_of rest.pattern.now)) (omega arith) m
+
+pub left-more : (pattern word : List ℕ) (rest : Rest) (back : Option Rest) (further : Rest) (unclosed : ℕ) → Goes pattern word rest back unclosed
+    → TakesMore back (Some further) → left pattern word further (Some further) < left pattern word rest back
+left-more pattern word rest None further unclosed goes more = cc
+left-more pattern word rest (Some last) further unclosed goes more = left-further pattern word rest last further unclosed goes more

@@ -8,7 +8,7 @@ use lib.Utf8.{encodes, encode}
 use Rattle.mk_glob.specs.declared.signs.PatternSign.{PatternSign}
 use Rattle.mk_glob.specs.declared.signs.PatternSign.TheVariants.{Bare, Plain}
 use Rattle.mk_glob.specs.Signs.{signs, signs_of}
-use Rattle.mk_glob.specs.Reading.{width, BeginsWithChar, BeginsWithSign}
+use Rattle.mk_glob.specs.FirstSigns.{width, BeginsWithChar, BeginsWithSign}
 use Rattle.mk_glob.specs.Steps.{widths}
 
 pub begins_with_char : (text : List ℕ) (c : ℕ) (behind now : List ℕ) → IsUtf8 text → IsUtf8 now → text ≡ encode c ++ behind → now ≡ behind

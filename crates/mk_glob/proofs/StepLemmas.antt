@@ -8,8 +8,8 @@ use Rattle.std.specs.Str.{IsUtf8, chars}
 use Rattle.mk_glob.specs.declared.signs.PatternSign.{PatternSign}
 use Rattle.mk_glob.specs.declared.signs.PatternSign.TheVariants.{Bare, Plain}
 use Rattle.mk_glob.specs.Signs.{character, is_bare, signs_of}
-use Rattle.mk_glob.specs.Items.{Range, alone, Item, one_of, exactly, First, members, Bracketed, bracketed, closed, bracket, first_at, items, items_of, is_within, admits}
-use Rattle.mk_glob.specs.Matching.{fits_items, fits}
+use Rattle.mk_glob.specs.Items.{Range, range_of_one, Item, one_of, exactly, First, members, Bracketed, bracketed, closed, bracket, first_at, items, items_of, is_within, admits}
+use Rattle.mk_glob.specs.Matcher.{fits_items, fits}
 use Rattle.mk_glob.specs.Steps.{widths, Finds, Learns, UnclosedWithin, TellsOne}
 use Rattle.mk_glob.proofs.SignLemmas.{widths-signs_of, signs_of-empty}
 use Rattle.mk_glob.proofs.EndLemmas.{items-cons, map_some}
@@ -35,7 +35,7 @@ pub TellsOne-exactly : (sign : PatternSign) (rest : List PatternSign) (c own : �
     → (is_bare 91 sign ≡ true → bracket rest ≡ None) → own ≡ character sign → TellsOne sign rest c (eqb own c) rest
 TellsOne-exactly sign rest c own run one opens e = record {
   negated = false;
-  ranges = alone (character sign) ∷ [];
+  ranges = range_of_one (character sign) ∷ [];
   stands = first_at-exactly sign rest run one opens;
   tells = ap (λ n. eqb n c) e ∙ same_is_within (character sign) c ∙ sym (or-false (is_within (character sign) (character sign) c));
 }
@@ -86,7 +86,7 @@ bracket_is_one (sign ∷ rest) f e = elim (cases_Bool (is_bare 33 sign)) [
 ]
 
 exactly_is_one : (c : ℕ) → IsOne (exactly c)
-exactly_is_one c = record { negated = false; ranges = alone c ∷ []; is = refl }
+exactly_is_one c = record { negated = false; ranges = range_of_one c ∷ []; is = refl }
 
 bracket_or_is_one : (rest : List PatternSign) (c : ℕ) (o : Option First) → bracket rest ≡ o
     → IsOne (unwrap_or o record { item = exactly c; behind = rest }).item

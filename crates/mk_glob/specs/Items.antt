@@ -6,6 +6,7 @@ use Rattle.std.specs.Prelude.{ℕ, zero, suc, Bool, true, false, ◌==◌, ◌&&
 use Rattle.std.specs.Prelude.{Some, None, if◌then◌else◌}
 use Rattle.std.specs.List.{list_any}
 use Rattle.std.specs.Option.{option_map, unwrap_or}
+use Rattle.general_facts.specs.Ascii.{bang, star, dash as dash_byte, question_mark, left_bracket, right_bracket}
 use Rattle.mk_glob.specs.declared.signs.PatternSign.{PatternSign}
 use Rattle.mk_glob.specs.declared.signs.PatternSign.TheVariants.{Bare, Plain}
 use Rattle.mk_glob.specs.Signs.{signs_of, character, is_bare}
@@ -22,8 +23,8 @@ pub data Item : Type 0 where
   one_of : Bool → List Range → Item
 
 -- one character as a range
-abbrev pub alone : ℕ → Range
-alone c = record { low = c; high = c }
+abbrev pub range_of_one : ℕ → Range
+range_of_one c = record { low = c; high = c }
 
 -- any one character: one that isn't among no ranges
 abbrev pub any_one : Item
@@ -31,20 +32,20 @@ any_one = one_of true []
 
 -- this character
 abbrev pub exactly : ℕ → Item
-exactly c = one_of false (alone c ∷ [])
+exactly c = one_of false (range_of_one c ∷ [])
 
--- the members between the brackets: ranges, which have a bare `-` (45) between two signs, and single
+-- the members between the brackets: ranges, which have a bare `-` between two signs, and single
 -- characters
 abbrev pub members : List PatternSign → List Range
 members [] = []
-members (only ∷ []) = alone (character only) ∷ []
-members (first ∷ second ∷ []) = alone (character first) ∷ alone (character second) ∷ []
+members (only ∷ []) = range_of_one (character only) ∷ []
+members (first ∷ second ∷ []) = range_of_one (character first) ∷ range_of_one (character second) ∷ []
 members (low ∷ dash ∷ high ∷ rest) =
-    if is_bare 45 dash
+    if is_bare dash_byte dash
     then record { low = character low; high = character high } ∷ members rest
-    else alone (character low) ∷ members (dash ∷ high ∷ rest)
+    else range_of_one (character low) ∷ members (dash ∷ high ∷ rest)
 
--- the signs before the first bare `]` (93), and those after it
+-- the signs before the first bare `]`, and those after it
 pub record Bracketed : Type 0 where
   pub inside : List PatternSign
   pub behind : List PatternSign
@@ -57,7 +58,7 @@ onto_inside sign b = record { inside = sign ∷ b.inside; behind = b.behind }
 abbrev pub up_to_close : List PatternSign → Option Bracketed
 up_to_close [] = None
 up_to_close (sign ∷ rest) =
-    if is_bare 93 sign then Some record { inside = []; behind = rest } else option_map (onto_inside sign) (up_to_close rest)
+    if is_bare right_bracket sign then Some record { inside = []; behind = rest } else option_map (onto_inside sign) (up_to_close rest)
 
 -- what follows the opening of a bracket: the first sign there never closes
 abbrev pub bracketed : List PatternSign → Option Bracketed
@@ -73,21 +74,21 @@ pub record First : Type 0 where
 abbrev pub closed : Bool → Bracketed → First
 closed negated b = record { item = one_of negated (members b.inside); behind = b.behind }
 
--- the bracket that a `[` before these signs opens: a bare `!` (33) directly after the `[` negates it; none
+-- the bracket that a `[` before these signs opens: a bare `!` directly after the `[` negates it; none
 -- if it isn't closed
 abbrev pub bracket : List PatternSign → Option First
 bracket [] = None
 bracket (sign ∷ rest) =
-    if is_bare 33 sign then option_map (closed true) (bracketed rest) else option_map (closed false) (bracketed (sign ∷ rest))
+    if is_bare bang sign then option_map (closed true) (bracketed rest) else option_map (closed false) (bracketed (sign ∷ rest))
 
--- The item that begins with a sign, and what follows it. `*` (42) is any run, and `?` (63) is any one
--- character. A `[` (91) that opens no bracket is itself, as every other sign is.
+-- The item that begins with a sign, and what follows it. `*` is any run, and `?` is any one
+-- character. A `[` that opens no bracket is itself, as every other sign is.
 abbrev pub first_at : PatternSign → List PatternSign → First
 first_at (Plain c) rest = record { item = exactly c; behind = rest }
 first_at (Bare c) rest =
-    if c == 42 then record { item = any_run; behind = rest }
-    else if c == 63 then record { item = any_one; behind = rest }
-    else if c == 91 then unwrap_or (bracket rest) record { item = exactly c; behind = rest }
+    if c == star then record { item = any_run; behind = rest }
+    else if c == question_mark then record { item = any_one; behind = rest }
+    else if c == left_bracket then unwrap_or (bracket rest) record { item = exactly c; behind = rest }
     else record { item = exactly c; behind = rest }
 
 -- the first items of a pattern, from the left, at most this many
@@ -109,9 +110,9 @@ abbrev pub is_within : ℕ → ℕ → ℕ → Bool
 is_within low high c = nat_le low c && nat_le c high
 
 -- whether a character is among some ranges
-abbrev pub is_among : List Range → ℕ → Bool
-is_among ranges c = list_any (λ range. is_within range.low range.high c) ranges
+abbrev pub is_in_some_range : List Range → ℕ → Bool
+is_in_some_range ranges c = list_any (λ range. is_within range.low range.high c) ranges
 
 -- whether an item of one character allows this one
 abbrev pub admits : Bool → List Range → ℕ → Bool
-admits negated ranges c = if negated then not (is_among ranges c) else is_among ranges c
+admits negated ranges c = if negated then not (is_in_some_range ranges c) else is_in_some_range ranges c

@@ -1,7 +1,7 @@
 pub mod Signs
-pub mod Reading
+pub mod FirstSigns
 pub mod Items
-pub mod Matching
+pub mod Matcher
 pub mod Brackets
 pub mod Steps
 pub mod Laws

@@ -2,15 +2,16 @@
 -- them.
 use Rattle.std.specs.Prelude.{ℕ, Bool, false, ◌==◌, List, [], ◌∷◌, if◌then◌else◌}
 use Rattle.std.specs.Str.{chars}
+use Rattle.general_facts.specs.Ascii.{backslash}
 use Rattle.mk_glob.specs.declared.signs.PatternSign.{PatternSign}
 use Rattle.mk_glob.specs.declared.signs.PatternSign.TheVariants.{Bare, Plain}
 
--- the signs of a pattern's characters: a backslash (92) makes the character after it plain; a backslash
+-- the signs of a pattern's characters: a backslash makes the character after it plain; a backslash
 -- with none after it is itself
 abbrev pub signs : List ℕ → List PatternSign
 signs [] = []
 signs (c ∷ []) = Bare c ∷ []
-signs (c ∷ d ∷ rest) = if c == 92 then Plain d ∷ signs rest else Bare c ∷ signs (d ∷ rest)
+signs (c ∷ d ∷ rest) = if c == backslash then Plain d ∷ signs rest else Bare c ∷ signs (d ∷ rest)
 
 -- the signs of a pattern's bytes
 unfoldable pub signs_of : List ℕ → List PatternSign

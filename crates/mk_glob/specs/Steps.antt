@@ -1,14 +1,15 @@
 -- One item of a pattern against what is left of a word.
 use Rattle.std.specs.Prelude.{◌≡◌, ◌⊎◌, ℕ, ◌≤◌, ◌+◌, Bool, true, false, List, [], ◌∷◌, ◌++◌, Option, None, MatchOption}
 use Rattle.std.specs.Str.{chars}
+use Rattle.general_facts.specs.Ascii.{star}
 use Rattle.mk_glob.specs.declared.signs.PatternSign.{PatternSign}
-use Rattle.mk_glob.specs.declared.matching.Rest.{Rest}
-use Rattle.mk_glob.specs.declared.matching.Step.{Step}
-use Rattle.mk_glob.specs.declared.matching.Step.TheVariants.{Over, Run, One, Refused}
+use Rattle.mk_glob.specs.declared.matcher.Rest.{Rest}
+use Rattle.mk_glob.specs.declared.matcher.Step.{Step}
+use Rattle.mk_glob.specs.declared.matcher.Step.TheVariants.{Over, Run, One, Refused}
 use Rattle.mk_glob.specs.Signs.{signs_of, is_bare}
-use Rattle.mk_glob.specs.Reading.{width}
+use Rattle.mk_glob.specs.FirstSigns.{width}
 use Rattle.mk_glob.specs.Items.{Range, one_of, bracket, first_at, admits}
-use Rattle.mk_glob.specs.Matching.{fits}
+use Rattle.mk_glob.specs.Matcher.{fits}
 
 -- how many bytes signs take
 abbrev pub widths : List PatternSign → ℕ
@@ -41,7 +42,7 @@ pub record TellsOne (sign : PatternSign) (rest : List PatternSign) (c : ℕ) (al
 -- the rest after a run that the pattern begins with
 pub record IsAfterRun (rest behind : Rest) : Type 0 where
   pub sign : PatternSign
-  pub is_run : is_bare 42 sign ≡ true
+  pub is_run : is_bare star sign ≡ true
   pub pattern : signs_of rest.pattern.now ≡ sign ∷ signs_of behind.pattern.now
   pub word : behind.word.now ≡ rest.word.now
 

@@ -3,8 +3,8 @@
 
 mod brackets;
 mod laws;
-mod matching;
+mod matcher;
 mod signs;
 
 pub use laws::fits_where_cut;
-pub use matching::glob;
+pub use matcher::glob;

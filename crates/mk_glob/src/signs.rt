@@ -1,7 +1,7 @@
 //! The characters of a pattern, with its backslashes read.
 ghost use Rattle.std.specs.Prelude.{◌≡◌};
 ghost use Rattle.mk_glob.specs.Signs.{character, is_bare};
-ghost use Rattle.mk_glob.specs.Reading.{ReadsChar, ReadsSign};
+ghost use Rattle.mk_glob.specs.FirstSigns.{ReadsChar, ReadsSign};
 
 /// A character of a pattern.
 #[derive(Clone, Copy)]

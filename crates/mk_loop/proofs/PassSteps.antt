@@ -9,10 +9,10 @@ use Rattle.std.proofs.lemmas.Str.{IsCharBoundary-after_ascii}
 use Rattle.std.specs.Str.{IsUtf8, IsCharBoundary}
 use Rattle.std.specs.List.{list_any}
 use Rattle.mk_base.specs.declared.faults.FaultKind.{FaultKind}
-use Rattle.mk_base.specs.declared.stopping.PureStop.{PureStop}
+use Rattle.mk_base.specs.declared.stops.PureStop.{PureStop}
 use Rattle.mk_base.specs.Meter.{Meter, pay}
 use Rattle.mk_base.specs.Outcome.{after}
-use Rattle.mk_base.specs.Stopping.{StopsPurelyAt, StopsPurelyAt-whole, GivesPurely}
+use Rattle.mk_base.specs.Stops.{StopsPurelyAt, StopsPurelyAt-whole, GivesPurely}
 use Rattle.mk_ref.specs.declared.opening.Opening.TheVariants.{Letter, Marked}
 use Rattle.mk_ref.specs.Units.{TextUnit, Byte, Reference, source, sources, before_colon, following_colon, opening_of, marked_reference, unit_before, up_to_mark, first_unit, units_of, cut_on, cut}
 use Rattle.mk_ref.proofs.UnitSteps.{opens_with, second_of, cut-next, first-nil}
@@ -21,13 +21,13 @@ use Rattle.general_facts.specs.Texts.{alphabetic-ascii}
 use Rattle.mk_ref.proofs.PieceSteps.{MayCut, may_cut}
 use Rattle.mk_ref.proofs.InsideSteps.{OccursAt, range_join, range_none}
 use Rattle.mk_env.specs.Texts.{Variables}
-use Rattle.mk_loop.specs.declared.passing.Around.{Around}
-use Rattle.mk_loop.specs.declared.passing.Around.TheVariants as v
-use Rattle.mk_loop.specs.declared.passing.Pass.{Pass}
+use Rattle.mk_loop.specs.declared.pass.Around.{Around}
+use Rattle.mk_loop.specs.declared.pass.Around.TheVariants as v
+use Rattle.mk_loop.specs.declared.pass.Pass.{Pass}
 use Rattle.mk_loop.specs.LoopWords.{LoopWords, is_reference, word_of, word_named}
-use Rattle.mk_loop.specs.Putting.{SoFar, nothing, as_written, with_word, put_reference, put}
+use Rattle.mk_loop.specs.BodyLine.{SoFar, nothing, as_written, with_loop_word, put_reference, put}
 use Rattle.mk_loop.specs.Joinings.{so_far}
-use Rattle.mk_loop.specs.Places.{Staying, Changing, Left, Within, mark_of, surrounds, IsLeft, close_reference, goes, closes_first, closes, surround_of, here, HasAsciiMark, IsKept, IsPlaced, HasLeft, GoesOn, NameEnds, EndsName}
+use Rattle.mk_loop.specs.Places.{Staying, Changing, Left, Within, mark_of, surrounds, IsLeft, close_reference, goes, closes_first, closes, surround_of, here, HasAsciiMark, IsKeptReference, IsPlaced, HasLeft, ContinuesPass, NameEnds, EndsName}
 use Rattle.mk_loop.proofs.Steps.{BeginsWith, begins-with, closes-left, begins-marked, turn, goes-unit, goes-closed, stays-marked, replaced-paid, replaced-unpaid, goes-changing}
 
 -- further bytes as they are written
@@ -70,7 +70,7 @@ kept-placed line pass next mark placed room ascii joined around copied at = reco
   starts = subst (IsCharBoundary line) (sym copied) placed.starts;
   marks = subst (All HasAsciiMark) (sym around) (All-push HasAsciiMark pass.around.items (v.Kept mark) placed.marks ascii);
   untouched = λ none. ap so_far joined ∙ placed.untouched (sym copied ∙ none);
-  kept = λ none. subst (All IsKept) (sym around) (All-push IsKept pass.around.items (v.Kept mark) (placed.kept (sym copied ∙ none)) tt);
+  kept = λ none. subst (All IsKeptReference) (sym around) (All-push IsKeptReference pass.around.items (v.Kept mark) (placed.kept (sym copied ∙ none)) tt);
 }
 
 -- a pass after a byte, up to which nothing is left to copy
@@ -158,7 +158,7 @@ module _ (words : LoopWords) (variables : Variables) (line : List ℕ) where
   -- past a unit that stays as it is written
   pub pass-on : (pass : Pass) (end : ℕ) (unit : TextUnit) (left : Left) (m : Meter) → IsPlaced line pass → pass.at < length line → OccursAt line pass.at end unit
       → closes pass (get_or line pass.at 0) ≡ false → ((before : SoFar) → turn words variables before unit m ≡ Ok (as_written before (source unit), m)) → HasLeft line pass left
-      → GoesOn words variables line pass left m (Ok (record pass { at = end })) m
+      → ContinuesPass words variables line pass left m (Ok (record pass { at = end })) m
   pass-on pass end unit left m placed near standing other same stands =
       let begins = begin pass left unit end near standing other stands in (
         begins.more,
@@ -175,7 +175,7 @@ module _ (words : LoopWords) (variables : Variables) (line : List ℕ) where
       → closes pass (get_or line pass.at 0) ≡ false
       → ((units : List TextUnit) (rest : List ℕ) → up_to_mark mark (drop (pass.at + 2) line) ≡ Some (units, rest) → cut (sources (before_colon units)) ≡ (before_colon units, []) → word_named words (sources (before_colon units)) ≡ None)
       → next.joined ≡ pass.joined → next.around.items ≡ pass.around.items ++ v.Kept mark ∷ [] → next.copied ≡ pass.copied → next.at ≡ pass.at + 2
-      → HasLeft line pass left → GoesOn words variables line pass left m (Ok next) m
+      → HasLeft line pass left → ContinuesPass words variables line pass left m (Ok next) m
   pass-keep pass next mark left m placed room opens other none joined around copied at stands =
       let near : pass.at < length line = omega arith in
       let marked = begins-marked left line pass.at mark near stands.units (ap (λ l. closes_first l (get_or line pass.at 0)) stands.around ∙ other) opens in
@@ -211,7 +211,7 @@ module _ (words : LoopWords) (variables : Variables) (line : List ℕ) where
       → goes words variables left (here line pass) m ≡ after outcome (λ next' m''. goes words variables begins.more next' m'')
       → GivesPurely (λ next. so_far next.joined) result m' outcome
       → IfOk result (λ next. next.around.items ≡ pass.around.items) → IfOk result (λ next. next.copied ≡ behind) → IfOk result (λ next. next.at ≡ behind)
-      → HasLeft line pass left → GoesOn words variables line pass left m result m'
+      → HasLeft line pass left → ContinuesPass words variables line pass left m result m'
   put-end pass behind left m m' (Ok next) unit begins outcome whole gives around copied at stands = (
     begins.more,
     (
@@ -225,23 +225,23 @@ module _ (words : LoopWords) (variables : Variables) (line : List ℕ) where
   -- a word comes in the place of a reference
   pub pass-put : (pass : Pass) (behind : ℕ) (left : Left) (unit : TextUnit) (written name word : List ℕ) (m m' : Meter) (paid : Unit {0}) (result : Result Pass (PureStop FaultKind))
       → unit ≡ Reference written name None → word_named words name ≡ Some word → pay m ≡ Ok (paid, m') → BeginsWith left unit (drop behind line)
-      → GivesPurely (λ next. so_far next.joined) result m' (with_word (here line pass) word m')
+      → GivesPurely (λ next. so_far next.joined) result m' (with_loop_word (here line pass) word m')
       → IfOk result (λ next. next.around.items ≡ pass.around.items) → IfOk result (λ next. next.copied ≡ behind) → IfOk result (λ next. next.at ≡ behind)
-      → HasLeft line pass left → GoesOn words variables line pass left m result m'
+      → HasLeft line pass left → ContinuesPass words variables line pass left m result m'
   pass-put pass behind left unit written name word m m' paid result is named pays begins gives around copied at stands =
-      let whole : goes words variables left (here line pass) m ≡ after (with_word (here line pass) word m') (λ next' m''. goes words variables begins.more next' m'') =
+      let whole : goes words variables left (here line pass) m ≡ after (with_loop_word (here line pass) word m') (λ next' m''. goes words variables begins.more next' m'') =
       ap (λ l. goes words variables l (here line pass) m) begins.is ∙ goes-unit words variables unit begins.more (here line pass) m
       ∙ ap (λ u. after (turn words variables (here line pass) u m) (λ next' m''. goes words variables begins.more next' m'')) is
       ∙ ap (λ found. after (put_reference variables (put words variables) (here line pass) written None found m) (λ next' m''. goes words variables begins.more next' m'')) named
       ∙ ap (λ r. after r (λ next' m''. goes words variables begins.more next' m'')) (replaced-paid words variables (here line pass) written None word m m' paid pays) in
-      put-end pass behind left m m' result unit begins (with_word (here line pass) word m') whole gives around copied at stands
+      put-end pass behind left m m' result unit begins (with_loop_word (here line pass) word m') whole gives around copied at stands
 
   -- into the modifiers of a reference that is replaced
   pub pass-replace : (pass next : Pass) (mark behind : ℕ) (left : Left) (written name word : List ℕ) (more : List TextUnit) (rest : List ℕ) (m m' : Meter) (paid : Unit {0})
       → word_named words name ≡ Some word → pay m ≡ Ok (paid, m') → cut (sources more) ≡ (more, []) → up_to_mark mark (drop behind line) ≡ Some (more, rest)
       → (begins : BeginsWith left (Reference written name (Some (sources more))) rest)
       → so_far next.joined ≡ nothing → map surround_of next.around.items ≡ map surround_of pass.around.items ++ Changing mark word (here line pass) ∷ []
-      → next.copied ≡ behind → next.at ≡ behind → HasLeft line pass left → GoesOn words variables line pass left m (Ok next) m'
+      → next.copied ≡ behind → next.at ≡ behind → HasLeft line pass left → ContinuesPass words variables line pass left m (Ok next) m'
   pass-replace pass next mark behind left written name word more rest m m' paid named pays alone read begins joined around copied at stands = (
     Within more (Changing mark word (here line pass)) begins.more,
     (
@@ -297,7 +297,7 @@ module _ (words : LoopWords) (variables : Variables) (line : List ℕ) where
 
   -- past the mark of a reference that stays
   pub pass-kept : (pass next : Pass) (left : Left) (mark : ℕ) (outer : List Around) (m : Meter) → IsPlaced line pass → pass.at < length line → ClosesAt pass left (v.Kept mark) outer
-      → next.joined ≡ pass.joined → next.around.items ≡ outer → next.copied ≡ pass.copied → next.at ≡ pass.at + 1 → GoesOn words variables line pass left m (Ok next) m
+      → next.joined ≡ pass.joined → next.around.items ≡ outer → next.copied ≡ pass.copied → next.at ≡ pass.at + 1 → ContinuesPass words variables line pass left m (Ok next) m
   pass-kept pass next left mark outer m placed near found joined around copied at =
       let one : mark ∷ [] ≡ slice_range line pass.at (pass.at + 1) =
       ap (λ b. b ∷ []) (sym found.mark) ∙ sym (ap (take 1) (drop_more line pass.at 0 near)) ∙ ap (λ n. take n (drop pass.at line)) (let e : 1 ≡ (pass.at + 1) - pass.at = omega arith in e) in (
@@ -316,7 +316,7 @@ module _ (words : LoopWords) (variables : Variables) (line : List ℕ) where
   -- past the mark of a reference that is replaced
   pub pass-changed : (pass next : Pass) (left : Left) (around : Around) (outer : List Around) (m m' : Meter) → (found : ClosesAt pass left around outer)
       → close_reference variables (surround_of around) (here line pass) m ≡ Ok (so_far next.joined, m') → next.around.items ≡ outer → next.copied ≡ pass.at + 1 → next.at ≡ pass.at + 1
-      → GoesOn words variables line pass left m (Ok next) m'
+      → ContinuesPass words variables line pass left m (Ok next) m'
   pass-changed pass next left around outer m m' found end over copied at = (
     found.more,
     (
@@ -333,9 +333,9 @@ module _ (words : LoopWords) (variables : Variables) (line : List ℕ) where
   pub marked-put : (pass : Pass) (mark end : ℕ) (left : Left) (word text : List ℕ) (m m' : Meter) (paid : Unit {0}) (result : Result Pass (PureStop FaultKind)) → pass.at + 2 ≤ length line
       → opening_of (drop pass.at line) ≡ Some (Marked mark) → closes pass (get_or line pass.at 0) ≡ false → EndsName line (pass.at + 2) mark (Some end) → get_or line end 0 ≡ mark
       → text ≡ slice_range line (pass.at + 2) end → Some word ≡ word_of words text → pay m ≡ Ok (paid, m')
-      → GivesPurely (λ next. so_far next.joined) result m' (with_word (here line pass) word m')
+      → GivesPurely (λ next. so_far next.joined) result m' (with_loop_word (here line pass) word m')
       → IfOk result (λ next. next.around.items ≡ pass.around.items) → IfOk result (λ next. next.copied ≡ end + 1) → IfOk result (λ next. next.at ≡ end + 1)
-      → HasLeft line pass left → GoesOn words variables line pass left m result m'
+      → HasLeft line pass left → ContinuesPass words variables line pass left m result m'
   marked-put pass mark end left word text m m' paid result room opens other ends here' is named pays gives around copied at stands =
       let marked = begins-marked left line pass.at mark (omega arith) stands.units (ap (λ l. closes_first l (get_or line pass.at 0)) stands.around ∙ other) opens in
       let name-ends = ends.3 marked.units marked.rest marked.read in
@@ -361,7 +361,7 @@ module _ (words : LoopWords) (variables : Variables) (line : List ℕ) where
       → opening_of (drop pass.at line) ≡ Some (Marked mark) → closes pass (get_or line pass.at 0) ≡ false → EndsName line (pass.at + 2) mark (Some end) → get_or line end 0 ≢ mark
       → text ≡ slice_range line (pass.at + 2) end → Some word ≡ word_of words text → pay m ≡ Ok (paid, m')
       → so_far next.joined ≡ nothing → map surround_of next.around.items ≡ map surround_of pass.around.items ++ Changing mark word (here line pass) ∷ []
-      → next.copied ≡ end + 1 → next.at ≡ end + 1 → HasLeft line pass left → GoesOn words variables line pass left m (Ok next) m'
+      → next.copied ≡ end + 1 → next.at ≡ end + 1 → HasLeft line pass left → ContinuesPass words variables line pass left m (Ok next) m'
   marked-replace pass next mark end left word text m m' paid room opens other ends colon is named pays joined around copied at stands =
       let marked = begins-marked left line pass.at mark (omega arith) stands.units (ap (λ l. closes_first l (get_or line pass.at 0)) stands.around ∙ other) opens in
       let name-ends = ends.3 marked.units marked.rest marked.read in

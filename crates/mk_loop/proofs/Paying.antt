@@ -3,11 +3,11 @@ use Rattle.std.proofs.Common.{◌≡◌, ◌≢◌, ◌↔◌, ◌<◌, ◌≤�
 use Rattle.std.proofs.lemmas.List.Elements.{All-pop}
 use Rattle.mk_base.specs.declared.faults.FaultKind.{FaultKind}
 use Rattle.mk_base.specs.declared.faults.FaultKind.TheVariants as kinds
-use Rattle.mk_base.specs.declared.stopping.PureStop.{PureStop}
+use Rattle.mk_base.specs.declared.stops.PureStop.{PureStop}
 use Rattle.mk_base.specs.Meter.{Meter, pay}
-use Rattle.mk_loop.specs.declared.passing.Around.{Around}
-use Rattle.mk_loop.specs.declared.passing.Pass.{Pass}
-use Rattle.mk_loop.specs.Places.{IsKept, IsPlaced, IsPaid, PaysFor}
+use Rattle.mk_loop.specs.declared.pass.Around.{Around}
+use Rattle.mk_loop.specs.declared.pass.Pass.{Pass}
+use Rattle.mk_loop.specs.Places.{IsKeptReference, IsPlaced, IsPaid, PaysFor}
 
 -- the meter that work leaves
 abbrev meter_left : Result (Unit {0} × Meter) (FaultKind × Meter) → Meter
@@ -41,8 +41,8 @@ pub same-paid : (pass next : Pass) (m : Meter) → next.copied ≡ pass.copied �
 same-paid pass next m copied = λ from is. rw copied is
 
 -- with a replaced reference around the place, something is copied already
-pub replaced-copied : (line : List ℕ) (pass : Pass) (outer : List Around) (around : Around) → IsPlaced line pass → pass.around.items ≡ outer ++ around ∷ [] → (IsKept around → ⊥) → pass.copied ≢ 0
-replaced-copied line pass outer around placed last replaced none = replaced (All-pop IsKept pass.around.items outer (Some around) last (placed.kept none)).1
+pub replaced-copied : (line : List ℕ) (pass : Pass) (outer : List Around) (around : Around) → IsPlaced line pass → pass.around.items ≡ outer ++ around ∷ [] → (IsKeptReference around → ⊥) → pass.copied ≢ 0
+replaced-copied line pass outer around placed last replaced none = replaced (All-pop IsKeptReference pass.around.items outer (Some around) last (placed.kept none)).1
 
 -- past the mark of a replaced reference, whatever its modifiers spent
 pub changed-paid : (pass next : Pass) (m m' : Meter) → pass.copied ≢ 0 → m.spent ≤ m'.spent → 0 < next.copied → PaysFor pass m next m'

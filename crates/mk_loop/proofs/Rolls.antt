@@ -10,7 +10,7 @@ use Rattle.mk_ref.proofs.UnitSteps.{units-text, units-together, cut-next, first-
 use Rattle.mk_env.specs.Texts.{Variables}
 use Rattle.mk_env.specs.Expansion.{modified_by}
 use Rattle.mk_loop.specs.LoopWords.{LoopWords, word_named}
-use Rattle.mk_loop.specs.Putting.{SoFar, nothing, as_written, with_word, finished, Puts, inside, closing, changed, put_reference, put_unit, put_by, put}
+use Rattle.mk_loop.specs.BodyLine.{SoFar, nothing, as_written, with_loop_word, finished, Puts, inside, closing, modified_word, put_reference, put_unit, put_by, put}
 
 -- what is in a reference is shorter than this
 abbrev pub HasSmallParts : ℕ → TextUnit → Type 0
@@ -78,16 +78,16 @@ AgreeBelow size puts other = (so_far : SoFar) (text : List ℕ) (m : Meter) → 
 
 module _ (words : LoopWords) (variables : Variables) where
   changed-same : (puts other : Puts) (size : ℕ) → AgreeBelow size puts other → (modifiers : Option (List ℕ)) → IfSome modifiers (λ text. length text < size)
-      → (word : List ℕ) (m : Meter) → changed variables puts modifiers word m ≡ changed variables other modifiers word m
+      → (word : List ℕ) (m : Meter) → modified_word variables puts modifiers word m ≡ modified_word variables other modifiers word m
   changed-same puts other size agree None small word m = refl
   changed-same puts other size agree (Some text) small word m =
       ap (λ r. after (after r finished) (λ found. modified_by variables found word)) (agree nothing text m small)
 
   paid-same : (puts other : Puts) (modifiers : Option (List ℕ)) (word : List ℕ) (so_far : SoFar)
-      → ((m : Meter) → changed variables puts modifiers word m ≡ changed variables other modifiers word m) → (r : Result (Unit {0} × Meter) (FaultKind × Meter))
-      → after r (λ _ m'. after (changed variables puts modifiers word m') (λ found. with_word so_far found))
-      ≡ after r (λ _ m'. after (changed variables other modifiers word m') (λ found. with_word so_far found))
-  paid-same puts other modifiers word so_far h (Ok end) = ap (λ r. after r (λ found. with_word so_far found)) (h end.1)
+      → ((m : Meter) → modified_word variables puts modifiers word m ≡ modified_word variables other modifiers word m) → (r : Result (Unit {0} × Meter) (FaultKind × Meter))
+      → after r (λ _ m'. after (modified_word variables puts modifiers word m') (λ found. with_loop_word so_far found))
+      ≡ after r (λ _ m'. after (modified_word variables other modifiers word m') (λ found. with_loop_word so_far found))
+  paid-same puts other modifiers word so_far h (Ok end) = ap (λ r. after r (λ found. with_loop_word so_far found)) (h end.1)
   paid-same puts other modifiers word so_far h (Err end) = refl
 
   reference-same : (puts other : Puts) (size : ℕ) → AgreeBelow size puts other → (written : List ℕ) (modifiers found : Option (List ℕ))

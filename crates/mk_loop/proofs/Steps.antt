@@ -14,7 +14,7 @@ use Rattle.mk_ref.proofs.PartSteps.{inside-alone}
 use Rattle.mk_env.specs.Texts.{Variables}
 use Rattle.mk_env.specs.Expansion.{modified_by}
 use Rattle.mk_loop.specs.LoopWords.{LoopWords}
-use Rattle.mk_loop.specs.Putting.{SoFar, nothing, as_written, with_word, finished, inside, closing, stays, changed, put_reference, put_unit, put}
+use Rattle.mk_loop.specs.BodyLine.{SoFar, nothing, as_written, with_loop_word, finished, inside, closing, stays, modified_word, put_reference, put_unit, put}
 use Rattle.mk_loop.specs.Places.{Surround, Staying, Changing, Left, Outermost, Within, mark_of, surrounds, IsLeft, close_reference, goes, closes_first}
 use Rattle.mk_loop.proofs.Rolls.{put-units, put-nothing}
 
@@ -178,22 +178,22 @@ module _ (words : LoopWords) (variables : Variables) where
 
   -- a reference that is replaced, once it is paid for
   pub replaced-paid : (here : SoFar) (written : List ℕ) (modifiers : Option (List ℕ)) (word : List ℕ) (m m' : Meter) (unit : Unit {0}) → pay m ≡ Ok (unit, m')
-      → put_reference variables (put words variables) here written modifiers (Some word) m ≡ after (changed variables (put words variables) modifiers word m') (λ found. with_word here found)
+      → put_reference variables (put words variables) here written modifiers (Some word) m ≡ after (modified_word variables (put words variables) modifiers word m') (λ found. with_loop_word here found)
   replaced-paid here written modifiers word m m' unit paid =
-      ap (λ r. after r (λ _ m''. after (changed variables (put words variables) modifiers word m'') (λ found. with_word here found))) paid
+      ap (λ r. after r (λ _ m''. after (modified_word variables (put words variables) modifiers word m'') (λ found. with_loop_word here found))) paid
 
   pub replaced-unpaid : (here : SoFar) (written : List ℕ) (modifiers : Option (List ℕ)) (word : List ℕ) (m : Meter) (stop : FaultKind × Meter) → pay m ≡ Err stop
       → put_reference variables (put words variables) here written modifiers (Some word) m ≡ Err stop
   replaced-unpaid here written modifiers word m stop unpaid =
-      ap (λ r. after r (λ _ m''. after (changed variables (put words variables) modifiers word m'') (λ found. with_word here found))) unpaid
+      ap (λ r. after r (λ _ m''. after (modified_word variables (put words variables) modifiers word m'') (λ found. with_loop_word here found))) unpaid
 
   -- what the modifiers of a replaced reference make of its word
   pub goes-changing : (units : List TextUnit) (mark : ℕ) (word : List ℕ) (here : SoFar) (left : Left) (m : Meter) → cut (sources units) ≡ (units, [])
-      → after (after (changed variables (put words variables) (Some (sources units)) word m) (λ found. with_word here found)) (λ next m'. goes words variables left next m')
+      → after (after (modified_word variables (put words variables) (Some (sources units)) word m) (λ found. with_loop_word here found)) (λ next m'. goes words variables left next m')
       ≡ goes words variables (Within units (Changing mark word here) left) nothing m
   goes-changing units mark word here left m alone =
-      ap (λ r. after (after (after (after r finished) (λ text. modified_by variables text word)) (λ found. with_word here found)) (λ next m'. goes words variables left next m'))
+      ap (λ r. after (after (after (after r finished) (λ text. modified_by variables text word)) (λ found. with_loop_word here found)) (λ next m'. goes words variables left next m'))
       (put-units words variables nothing (sources units) m ∙ ap (λ x. each turn nothing x.0 m) alone)
       ∙ ap (λ r. after r (λ next m'. goes words variables left next m'))
-      (after-twice (after (each turn nothing units m) finished) (λ text. modified_by variables text word) (λ found. with_word here found)
-      ∙ after-twice (each turn nothing units m) finished (λ text m'. after (modified_by variables text word m') (λ found. with_word here found)))
+      (after-twice (after (each turn nothing units m) finished) (λ text. modified_by variables text word) (λ found. with_loop_word here found)
+      ∙ after-twice (each turn nothing units m) finished (λ text m'. after (modified_by variables text word m') (λ found. with_loop_word here found)))

@@ -8,9 +8,9 @@ use Rattle.mk_base.specs.Outcome.{after}
 use Rattle.mk_ref.specs.Units.{cut, cut_on, units_of, left_of}
 use Rattle.mk_ref.proofs.UnitSteps.{up_to-nil, cut-next, first-nil}
 use Rattle.mk_env.specs.Texts.{Variables}
-use Rattle.mk_loop.specs.declared.passing.Pass.{Pass}
+use Rattle.mk_loop.specs.declared.pass.Pass.{Pass}
 use Rattle.mk_loop.specs.LoopWords.{LoopWords}
-use Rattle.mk_loop.specs.Putting.{nothing, as_written, finished, where_closed, put_words}
+use Rattle.mk_loop.specs.BodyLine.{nothing, as_written, finished, where_closed, put_words}
 use Rattle.mk_loop.specs.Joinings.{so_far}
 use Rattle.mk_loop.specs.Places.{Left, Outermost, Within, mark_of, surround_of, IsLeft, goes, here, HasLeft}
 use Rattle.mk_loop.proofs.Rolls.{put-units}

@@ -1,6 +1,7 @@
 pub mod LoopWords
-pub mod Putting
+pub mod BodyLine
 pub mod Header
 pub mod Scopes
 pub mod Joinings
 pub mod Places
+pub mod Passes

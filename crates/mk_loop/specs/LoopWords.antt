@@ -21,10 +21,10 @@ is_reference EscapedDollar = false
 is_reference (Reference written name modifiers) = true
 
 -- whether there is a reference in a text
-abbrev pub has_reference : List ℕ → Bool
-has_reference text = list_any is_reference (units_of text)
+abbrev pub has_whole_reference : List ℕ → Bool
+has_whole_reference text = list_any is_reference (units_of text)
 
 -- The word of the variable that a reference with this name names. The name counts as it is written, and a
 -- name with a reference in it isn't the name of a loop's variable.
 abbrev pub word_named : LoopWords → List ℕ → Option (List ℕ)
-word_named words name = if has_reference name then None else word_of words name
+word_named words name = if has_whole_reference name then None else word_of words name

@@ -6,21 +6,21 @@ use Rattle.std.specs.List.{list_any}
 use Rattle.std.specs.Str.{IsUtf8, IsCharBoundary}
 use Rattle.std.specs.declared.alloc.Global.{Global}
 use Rattle.mk_base.specs.declared.faults.FaultKind.{FaultKind}
-use Rattle.mk_base.specs.declared.stopping.PureStop.{PureStop}
+use Rattle.mk_base.specs.declared.stops.PureStop.{PureStop}
 use Rattle.mk_base.specs.Meter.{Meter}
 use Rattle.mk_base.specs.Outcome.{Work, give, each, ◌>>=◌}
-use Rattle.mk_base.specs.Stopping.{StopsPurelyAt}
+use Rattle.mk_base.specs.Stops.{StopsPurelyAt}
 use Rattle.mk_ref.specs.Units.{TextUnit, sources, before_colon, following_colon, up_to_mark, cut}
 use Rattle.mk_env.specs.Texts.{Variables}
 use Rattle.mk_env.specs.Expansion.{modified_by}
 use Rattle.mk_loop.specs.LoopWords.{LoopWords, is_reference}
-use Rattle.mk_loop.specs.Putting.{SoFar, nothing, as_written, with_word, finished, put_unit, put}
+use Rattle.mk_loop.specs.BodyLine.{SoFar, nothing, as_written, with_loop_word, finished, put_unit, put}
 use Rattle.mk_loop.specs.Joinings.{so_far}
 use Rattle.mk_loop.specs.Scopes.{words_in}
-use Rattle.mk_loop.specs.declared.passing.Around.{Around}
-use Rattle.mk_loop.specs.declared.passing.Around.TheVariants as v
-use Rattle.mk_loop.specs.declared.passing.Body.{Body}
-use Rattle.mk_loop.specs.declared.passing.Pass.{Pass}
+use Rattle.mk_loop.specs.declared.pass.Around.{Around}
+use Rattle.mk_loop.specs.declared.pass.Around.TheVariants as v
+use Rattle.mk_loop.specs.declared.pass.Body.{Body}
+use Rattle.mk_loop.specs.declared.pass.Pass.{Pass}
 
 -- A reference that a place is in. One that stays has the mark that closes it. One that is replaced, with the
 -- place in its modifiers, has its mark, its word and what is joined before it.
@@ -54,7 +54,7 @@ IsLeft (Within units surround left) text = (rest : List ℕ) × ((up_to_mark (ma
 abbrev pub close_reference : Variables → Surround → SoFar → Work Meter FaultKind SoFar
 close_reference variables (Staying mark) here = give (as_written here (mark ∷ []))
 close_reference variables (Changing mark word front) here =
-    finished here >>= λ text. modified_by variables text word >>= λ found. with_word front found
+    finished here >>= λ text. modified_by variables text word >>= λ found. with_loop_word front found
 
 -- what becomes of a line if this is left of it, given what is joined so far of the innermost text
 abbrev pub goes : LoopWords → Variables → Left → SoFar → Work Meter FaultKind (List ℕ)
@@ -81,18 +81,18 @@ abbrev pub closes : Pass → ℕ → Bool
 closes pass byte = closes_first (map surround_of (reverse pass.around.items)) byte
 
 -- the text that was made of a line; the line itself if none was made
-abbrev pub text_of : List ℕ → Option (String Global) → List ℕ
-text_of line None = line
-text_of line (Some made) = string_bytes made
+abbrev pub made_or_line : List ℕ → Option (String Global) → List ℕ
+made_or_line line None = line
+made_or_line line (Some made) = string_bytes made
 
 -- its mark is a byte of a text by itself
 abbrev pub HasAsciiMark : Around → Type 0
 HasAsciiMark around = mark_of (surround_of around) < 128
 
 -- it stays
-abbrev pub IsKept : Around → Type 0
-IsKept (v.Kept mark) = Unit {0}
-IsKept (v.Replaced mark word front) = ⊥
+abbrev pub IsKeptReference : Around → Type 0
+IsKeptReference (v.Kept mark) = Unit {0}
+IsKeptReference (v.Replaced mark word front) = ⊥
 
 -- the places of a pass are in the line, and the line is UTF-8
 pub record IsPlaced (line : List ℕ) (pass : Pass) : Type 0 where
@@ -103,7 +103,7 @@ pub record IsPlaced (line : List ℕ) (pass : Pass) : Type 0 where
   pub marks : All HasAsciiMark pass.around.items
   -- if nothing is copied, no reference was replaced yet: nothing is joined, and each one around the place stays
   pub untouched : pass.copied ≡ 0 → so_far pass.joined ≡ nothing
-  pub kept : pass.copied ≡ 0 → All IsKept pass.around.items
+  pub kept : pass.copied ≡ 0 → All IsKeptReference pass.around.items
 
 -- What is copied was paid for: from the first meter on nothing is spent if nothing is copied, and at least one
 -- unit if something is.
@@ -121,18 +121,18 @@ pub record HasLeft (line : List ℕ) (pass : Pass) (left : Left) : Type 0 where
 
 -- A step of a pass, if this is left. What becomes of the line is the same from the new place on, or
 -- it stops there.
-abbrev pub GoesOn : LoopWords → Variables → List ℕ → Pass → Left → Meter → Result Pass (PureStop FaultKind) → Meter → Type 0
-GoesOn words variables line pass left m (Ok next) m' =
+abbrev pub ContinuesPass : LoopWords → Variables → List ℕ → Pass → Left → Meter → Result Pass (PureStop FaultKind) → Meter → Type 0
+ContinuesPass words variables line pass left m (Ok next) m' =
     (more : Left)
     × (HasLeft line next more × (goes words variables left (here line pass) m ≡ goes words variables more (here line next) m'))
-GoesOn words variables line pass left m (Err stop) m' = StopsPurelyAt stop m' (goes words variables left (here line pass) m)
+ContinuesPass words variables line pass left m (Err stop) m' = StopsPurelyAt stop m' (goes words variables left (here line pass) m)
 
 -- a step of a pass over the line of a body, whatever is left of the line
 abbrev pub StepsOn : Body → Pass → Meter → Result Pass (PureStop FaultKind) → Meter → Type 0
 StepsOn body pass m result m' =
     (left : Left)
     → HasLeft body.line.now pass left
-    → GoesOn (words_in body.loops.now) body.variables.now body.line.now pass left m result m'
+    → ContinuesPass (words_in body.loops.now) body.variables.now body.line.now pass left m result m'
 
 -- The name of a reference ends at this index, and there is no reference in the name. The reference has these
 -- units inside, the first of them at `start`, and this rest follows its mark.

@@ -1,10 +1,8 @@
 //! The header of `.for`.
-ghost use Rattle.std.specs.Prelude.{◌≡◌, ◌<◌, length, map, string_bytes, IfOk};
-ghost use Rattle.mk_base.specs.Meter.{Meter, IsLater};
-ghost use Rattle.mk_base.specs.Stopping.{GivesPurely};
-ghost use Rattle.mk_text.specs.Words.{word_spans};
-ghost use Rattle.mk_loop.specs.Header as headers;
-ghost use Rattle.mk_loop.specs.Scopes.{turns_in};
+ghost use Rattle.std.specs.Prelude.{◌≡◌, ◌<◌, length, IfOk};
+ghost use Rattle.mk_base.specs.Meter.{IsLater};
+ghost use Rattle.mk_loop.specs.Scopes.{turns_in, GivesTurns};
+ghost use Rattle.mk_loop.specs.Header.{ReadsForm};
 
 use crate::turn::Iterations;
 use mk_base::{Budget, FaultKind, PureStop};
@@ -39,8 +37,7 @@ pub fn read_header(
     budget: &mut Budget,
 ) -> Result<Iterations, PureStop<FaultKind>>
     ensures later { IsLater budget.old budget.new }
-    ensures gives { GivesPurely turns_in result budget.new
-        (headers.header variables.now header.now budget.old) }
+    ensures gives { GivesTurns result variables.now header.now budget.old budget.new }
 {
     let (names, rest) = read_form(alloc, header)?;
     let text = expand(alloc, variables, rest, budget)?;
@@ -58,9 +55,7 @@ fn read_form<'a>(
     header: &'a str,
 ) -> Result<(Vec<String>, &'a str), PureStop<FaultKind>>
     ensures named { IfOk result (λ form. 0 < length form.0.items) }
-    ensures gives { (m : Meter)
-        → GivesPurely (λ form. (map string_bytes form.0.items, form.1.now)) result m
-        (headers.formed (headers.header_parts header.now (word_spans header.now)) m) }
+    ensures gives { ReadsForm result header.now }
 {
     let mut names = Vec::new(alloc);
     for span in &words(alloc, header)? {

@@ -2,15 +2,15 @@
 //! "FOR LOOPS").
 #![tactic(auto)]
 
+mod body_line;
 mod header;
-mod joining;
+mod joined_text;
 mod names;
-mod passing;
-mod putting;
+mod pass;
 mod scopes;
 mod turn;
 
+pub use body_line::put_words;
 pub use header::read_header;
-pub use putting::put_words;
 pub use scopes::inside;
 pub use turn::{Iteration, Iterations};

@@ -1,8 +1,8 @@
 //! The variables of the loops around a line.
-ghost use Rattle.std.specs.Prelude.{◌≡◌, ◌<◌, ◌++◌, [], ◌∷◌, length, map, slice_get, Some, IfOk};
+ghost use Rattle.std.specs.Prelude.{◌≡◌, ◌<◌, [], length, slice_get, Some};
 ghost use Rattle.std.specs.Option.{option_copied};
 ghost use Rattle.mk_loop.specs.LoopWords.{word_of};
-ghost use Rattle.mk_loop.specs.Scopes.{turn_words, turns_in, words_in};
+ghost use Rattle.mk_loop.specs.Scopes.{turn_words, turns_in, words_in, HasInnerTurn};
 
 use crate::turn::{Iteration, Iterations};
 use std::alloc::{AllocError, Global};
@@ -51,8 +51,7 @@ pub fn inside(
     loops: &[Iteration],
     turn: Iteration,
 ) -> Result<Vec<Iteration>, AllocError>
-    ensures { IfOk result (λ inner. map turn_words inner.items
-        ≡ map turn_words loops.now ++ turn_words turn ∷ []) }
+    ensures { HasInnerTurn result loops.now turn }
 {
     let mut inner = Vec::new(alloc);
     for outer in loops {

@@ -4,8 +4,8 @@ use Rattle.std.specs.Prelude.{filter}
 use Rattle.std.specs.List.{join_with_byte}
 use Rattle.std.proofs.lemmas.List.{drop_more, drop-map}
 use mathlib.Core.Bool.{beq}
-use Rattle.mk_mods.specs.Applied.{kept}
-use Rattle.mk_text.specs.declared.splitting.Span.{Span}
+use Rattle.mk_mods.specs.Applied.{keeps_word}
+use Rattle.mk_text.specs.declared.span.Span.{Span}
 use Rattle.mk_text.specs.Words.{span_text}
 use Rattle.mk_text.specs.declared.limits.TextFault.{TextFault}
 use Rattle.mk_text.specs.declared.limits.TextFault.TheVariants as faults
@@ -80,14 +80,14 @@ too_long-over text whole faults.Length at_least long = omega arith
 too_long-over text whole (faults.Memory _) at_least long = tt
 
 -- what the comparison of a match with whether matches are wanted says
-kept-is : (matching is : Bool) → kept matching is ≡ beq is matching
-kept-is true true = refl
-kept-is true false = refl
-kept-is false true = refl
-kept-is false false = refl
+keeps_word-is : (matching is : Bool) → keeps_word matching is ≡ beq is matching
+keeps_word-is true true = refl
+keeps_word-is true false = refl
+keeps_word-is false true = refl
+keeps_word-is false false = refl
 
-pub kept-by : (found matching is : Bool) → found ≡ is → kept matching is ≡ beq found matching
-kept-by found matching is e = kept-is matching is ∙ ap (λ b. beq b matching) (sym e)
+pub keeps_word-by : (found matching is : Bool) → found ≡ is → keeps_word matching is ≡ beq found matching
+keeps_word-by found matching is e = keeps_word-is matching is ∙ ap (λ b. beq b matching) (sym e)
 
 pub overlong-of : (made : Option (List ℕ)) (text : List ℕ) (fault : TextFault) → made ≡ Some text → IsTooLong text fault → IsOverlong made fault
 overlong-of made text fault e long = subst (λ o. IsOverlong o fault) (sym e) long

@@ -6,7 +6,7 @@ use Rattle.std.proofs.lemmas.Bool.{cond-true, cond-false, le-leb, lt-leb}
 use Rattle.mk_text.specs.declared.limits.TheConstants.{TEXT_LIMIT}
 use Rattle.mk_text.specs.declared.limits.TextFault.{TextFault}
 use Rattle.mk_text.specs.declared.limits.TextFault.TheVariants as faults
-use Rattle.mk_mods.specs.Joined.{joined, within_limit, IsMade, IsUnmade}
+use Rattle.mk_mods.specs.Joined.{joined, within_limit, IsMadeText, IsUnmade}
 use Rattle.mk_text.specs.TextLimit.{IsTooLong}
 use Rattle.mk_mods.specs.Actions.{Replacement}
 use Rattle.mk_mods.specs.Substituted.{text_of, substituted}
@@ -18,14 +18,14 @@ within-small text small = cond-true (leb (length text) TEXT_LIMIT) (Some text) N
 within-long : (text : List ℕ) → TEXT_LIMIT < length text → within_limit text ≡ None
 within-long text long = cond-false (leb (length text) TEXT_LIMIT) (Some text) None (lt-leb (length text) TEXT_LIMIT long)
 
-pub within-made : (text : List ℕ) (made : String Global) → IsMade text made → within_limit text ≡ Some (string_bytes made)
+pub within-made : (text : List ℕ) (made : String Global) → IsMadeText text made → within_limit text ≡ Some (string_bytes made)
 within-made text made is = within-small text is.0 ∙ ap Some (sym is.1)
 
 pub within-unmade : (text : List ℕ) (fault : TextFault) → IsTooLong text fault → IsUnmade (within_limit text) fault
 within-unmade text faults.Length long = within-long text long
 within-unmade text (faults.Memory _) long = tt
 
-pub ok-within : (r : Result (String Global) TextFault) (text : List ℕ) → IfOk r (IsMade text) → IfOk r (λ made. within_limit text ≡ Some (string_bytes made))
+pub ok-within : (r : Result (String Global) TextFault) (text : List ℕ) → IfOk r (IsMadeText text) → IfOk r (λ made. within_limit text ≡ Some (string_bytes made))
 ok-within (Ok made) text is = within-made text made is
 ok-within (Err fault) text is = tt
 

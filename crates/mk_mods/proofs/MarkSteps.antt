@@ -1,15 +1,15 @@
 -- Texts that have no marks.
 use Rattle.std.proofs.Common.{◌≡◌, ℕ, ◌<◌, List, [], ◌∷◌, length, None, refl, ap, arith, length-drop}
 use Rattle.std.specs.List.{flat_map}
-use Rattle.mk_ref.specs.declared.cutting.PiecesFault.{PiecesFault}
-use Rattle.mk_ref.specs.declared.cutting.PiecesFault.TheVariants as faults
+use Rattle.mk_ref.specs.declared.piece.PiecesFault.{PiecesFault}
+use Rattle.mk_ref.specs.declared.piece.PiecesFault.TheVariants as faults
 use Rattle.mk_ref.specs.Units.{units_of, left_of}
 use Rattle.mk_ref.specs.Pieces.{pieces_of}
 use Rattle.mk_ref.specs.Places.{IsFaultOf}
-use Rattle.mk_mods.specs.Marks.{TextMark, marks_of, where_whole, piece_marks}
+use Rattle.mk_mods.specs.Marks.{TextMark, marks_of, marks_if_whole, piece_marks}
 use Rattle.mk_mods.specs.Views.{IsUnread, unread_by}
 
-where_left : (left : List ℕ) (marks : List TextMark) → 0 < length left → where_whole left marks ≡ None
+where_left : (left : List ℕ) (marks : List TextMark) → 0 < length left → marks_if_whole left marks ≡ None
 where_left [] marks some = absurd (omega arith)
 where_left (b ∷ left) marks some = refl
 

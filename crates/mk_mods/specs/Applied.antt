@@ -2,15 +2,15 @@
 use Rattle.std.specs.Prelude.{ℕ, Bool, not, List, [], filter, map, Option, Some, option_map, true, false, if◌then◌else◌}
 use Rattle.std.specs.Option.{option_and_then}
 use Rattle.mk_text.specs.Words.{words_of}
-use Rattle.mk_glob.specs.Matching.{fits}
+use Rattle.mk_glob.specs.Matcher.{fits}
 use Rattle.mk_mods.specs.Joined.{joined, within_limit}
 use Rattle.mk_mods.specs.WordChanges.{word_change, with_suffix}
 use Rattle.mk_mods.specs.Actions.{Action, Match, Exclude, Substitute, Change, Suffix, Replacement}
 use Rattle.mk_mods.specs.Substituted.{text_of, substituted}
 
 -- whether a word is kept, by whether it fits: `:M` keeps one that fits, and `:N` one that doesn't
-abbrev pub kept : Bool → Bool → Bool
-kept matching is = if matching then is else not is
+abbrev pub keeps_word : Bool → Bool → Bool
+keeps_word matching is = if matching then is else not is
 
 -- first the old text, then the new one in which `&` means the old one, each within the limit; and then the
 -- words with the new text in place of the old one
@@ -21,8 +21,8 @@ words_substituted s words =
 
 -- what a modifier makes of words: `:M` and `:N` are filters, the others maps
 abbrev pub words_changed : Action → List (List ℕ) → Option (List (List ℕ))
-words_changed (Match pattern) words = Some (filter (λ word. kept true (fits pattern word)) words)
-words_changed (Exclude pattern) words = Some (filter (λ word. kept false (fits pattern word)) words)
+words_changed (Match pattern) words = Some (filter (λ word. keeps_word true (fits pattern word)) words)
+words_changed (Exclude pattern) words = Some (filter (λ word. keeps_word false (fits pattern word)) words)
 words_changed (Substitute s) words = words_substituted s words
 words_changed (Change word_map) words = Some (map (word_change word_map) words)
 words_changed (Suffix old new) words = Some (map (with_suffix old new) words)

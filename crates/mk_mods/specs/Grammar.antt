@@ -4,6 +4,8 @@ use Rattle.std.specs.Prelude.{ℕ, zero, suc, Bool, true, false, not, ◌==◌, 
 use Rattle.std.specs.Prelude.{Some, None, option_map, if◌then◌else◌}
 use Rattle.std.specs.List.{flat_map}
 use Rattle.std.specs.Option.{option_and_then, option_or}
+use Rattle.general_facts.specs.Ascii.{digit_one, colon, equals_sign, capital_e, capital_h, capital_l, capital_m}
+use Rattle.general_facts.specs.Ascii.{capital_n, capital_r, capital_s, capital_t, capital_u, backslash, small_g}
 use Rattle.mk_text.specs.declared.profile.Profile.{Profile}
 use Rattle.mk_text.specs.declared.profile.Profile.TheVariants.{One, Two}
 use Rattle.mk_mods.specs.declared.modifiers.WordMap.{WordMap}
@@ -16,13 +18,13 @@ use Rattle.mk_mods.specs.Signs.{TextSign, signs_before, without_start, without_e
 abbrev pub in_pattern : TextMark → List ℕ × List TextMark → List ℕ × List TextMark
 in_pattern mark read = (mark_source mark ++ read.0, read.1)
 
--- A pattern, and what follows it. The pattern ends before the first colon (58) outside references that has
--- no backslash (92) directly before it. The first argument says whether there is one directly before the
+-- A pattern, and what follows it. The pattern ends before the first colon outside references that has
+-- no backslash directly before it. The first argument says whether there is one directly before the
 -- marks.
 abbrev pub pattern_from : Bool → List TextMark → List ℕ × List TextMark
 pattern_from escaped [] = ([], [])
 pattern_from escaped (mark ∷ marks) =
-    if is_char 58 mark && not escaped then ([], mark ∷ marks) else in_pattern mark (pattern_from (is_char 92 mark) marks)
+    if is_char colon mark && not escaped then ([], mark ∷ marks) else in_pattern mark (pattern_from (is_char backslash mark) marks)
 
 -- the flags of `:S`, and what follows them
 pub record Flags : Type 0 where
@@ -30,12 +32,12 @@ pub record Flags : Type 0 where
   pub once : Bool
   pub behind : List TextMark
 
--- any run of `g` (103) and `1` (49)
+-- any run of `g` and `1`
 abbrev pub flags_of : List TextMark → Flags
 flags_of [] = record { every = false; once = false; behind = [] }
 flags_of (mark ∷ marks) =
-    if is_char 103 mark then record (flags_of marks) { every = true }
-    else if is_char 49 mark then record (flags_of marks) { once = true }
+    if is_char small_g mark then record (flags_of marks) { every = true }
+    else if is_char digit_one mark then record (flags_of marks) { once = true }
     else record { every = false; once = false; behind = mark ∷ marks }
 
 -- the substitution of an old and a new text with flags
@@ -69,24 +71,24 @@ substitution_from (Char delimiter ∷ marks) = after_old delimiter (signs_before
 substitution_from (EscapedDollar ∷ marks) = None
 substitution_from (Written source ∷ marks) = None
 
--- the modifiers of one letter: R (82), E (69), H (72), T (84), L (76), U (85)
+-- the modifiers of one letter: R, E, H, T, L, U
 abbrev pub word_map_of : ℕ → Option WordMap
 word_map_of c =
-    if c == 82 then Some maps.Root
-    else if c == 69 then Some maps.Extension
-    else if c == 72 then Some maps.Head
-    else if c == 84 then Some maps.Tail
-    else if c == 76 then Some maps.Lower
-    else if c == 85 then Some maps.Upper
+    if c == capital_r then Some maps.Root
+    else if c == capital_e then Some maps.Extension
+    else if c == capital_h then Some maps.Head
+    else if c == capital_t then Some maps.Tail
+    else if c == capital_l then Some maps.Lower
+    else if c == capital_u then Some maps.Upper
     else None
 
--- the modifier that begins with this letter, and what follows it: M (77), N (78), S (83), or one of one
+-- the modifier that begins with this letter, and what follows it: M, N, S, or one of one
 -- letter
 abbrev pub modifier_at : ℕ → List TextMark → Option (Action × List TextMark)
 modifier_at letter marks =
-    if letter == 77 then (let read = pattern_from false marks in Some (Match read.0, read.1))
-    else if letter == 78 then (let read = pattern_from false marks in Some (Exclude read.0, read.1))
-    else if letter == 83 then option_map (λ read. (Substitute read.0, read.1)) (substitution_from marks)
+    if letter == capital_m then (let read = pattern_from false marks in Some (Match read.0, read.1))
+    else if letter == capital_n then (let read = pattern_from false marks in Some (Exclude read.0, read.1))
+    else if letter == capital_s then option_map (λ read. (Substitute read.0, read.1)) (substitution_from marks)
     else option_map (λ word_map. (Change word_map, marks)) (word_map_of letter)
 
 -- the first modifier, if it begins with a letter of its own, and what follows it
@@ -101,20 +103,21 @@ abbrev pub cut_before : ℕ → List TextMark → List TextMark × List TextMark
 cut_before c [] = ([], [])
 cut_before c (mark ∷ marks) = if is_char c mark then ([], mark ∷ marks) else (let cut = cut_before c marks in (mark ∷ cut.0, cut.1))
 
--- the replacement of one end of words by another, by the marks before its `=` (61), and that sign with those after it;
+-- the replacement of one end of words by another, by the marks before its `=`, and that sign with those after it;
 -- None if there is no such sign
 abbrev pub suffix_by : List TextMark × List TextMark → Option Action
 suffix_by (old, []) = None
 suffix_by (old, sign ∷ new) = Some (Suffix (flat_map mark_source old) (flat_map mark_source new))
 
--- the modifier `old=new`, which ends before the first colon (58) outside references, and what follows it
+-- the modifier `old=new`, which ends before the first colon outside references, and what follows it
 abbrev pub suffix_modifier : List TextMark → Option (Action × List TextMark)
-suffix_modifier marks = let cut = cut_before 58 marks in option_map (λ action. (action, cut.1)) (suffix_by (cut_before 61 cut.0))
+suffix_modifier marks =
+    let cut = cut_before colon marks in option_map (λ action. (action, cut.1)) (suffix_by (cut_before equals_sign cut.0))
 
--- whether marks begin with M (77), N (78) or S (83), after which `=` is a character like any other
+-- whether marks begin with M, N or S, after which `=` is a character like any other
 abbrev pub takes_text : List TextMark → Bool
 takes_text [] = false
-takes_text (mark ∷ marks) = is_char 77 mark || is_char 78 mark || is_char 83 mark
+takes_text (mark ∷ marks) = is_char capital_m mark || is_char capital_n mark || is_char capital_s mark
 
 -- `old=new` wherever it can be, and else a modifier that begins with a letter of its own
 abbrev pub suffix_or_lettered : List TextMark → Option (Action × List TextMark)
@@ -130,7 +133,7 @@ first_modifier Two marks = suffix_or_lettered marks
 -- the modifiers that `later` reads after a colon, if anything follows
 abbrev pub after_colon : (List TextMark → Option (List Action)) → List TextMark → Option (List Action)
 after_colon later [] = Some []
-after_colon later (mark ∷ marks) = if is_char 58 mark then later marks else None
+after_colon later (mark ∷ marks) = if is_char colon mark then later marks else None
 
 -- a modifier, and those that follow it
 abbrev pub and_later : (List TextMark → Option (List Action)) → Option (Action × List TextMark) → Option (List Action)

@@ -3,6 +3,7 @@ use Rattle.std.specs.Prelude.{◌≡◌, ◌≤◌, ℕ, Bool, true, false, nat_
 use Rattle.std.specs.Prelude.{Some, None, if◌then◌else◌, String, string_bytes}
 use Rattle.std.specs.declared.alloc.Global.{Global}
 use Rattle.std.specs.List.{join_with_byte}
+use Rattle.general_facts.specs.Ascii.{space}
 use Rattle.mk_text.specs.declared.limits.TheConstants.{TEXT_LIMIT}
 use Rattle.mk_text.specs.TextLimit.{IsTooLong}
 use Rattle.mk_text.specs.declared.limits.TextFault.{TextFault}
@@ -16,7 +17,7 @@ has_bytes (b ∷ rest) = true
 
 -- the words joined by single spaces; those that became empty are left out
 abbrev pub joined : List (List ℕ) → List ℕ
-joined words = join_with_byte 32 (filter has_bytes words)
+joined words = join_with_byte space (filter has_bytes words)
 
 -- a text, unless it is longer than any text may be
 abbrev pub within_limit : List ℕ → Option (List ℕ)
@@ -31,11 +32,11 @@ IsUnmade made (faults.Memory _) = Unit {0}
 abbrev pub with_word : List ℕ → List ℕ → List ℕ
 with_word made [] = made
 with_word [] (b ∷ word) = b ∷ word
-with_word (m ∷ made) (b ∷ word) = m ∷ made ++ 32 ∷ b ∷ word
+with_word (m ∷ made) (b ∷ word) = m ∷ made ++ space ∷ b ∷ word
 
 -- a text was made that isn't too long
-abbrev pub IsMade : List ℕ → String Global → Type 0
-IsMade text made = (length text ≤ TEXT_LIMIT) × (string_bytes made ≡ text)
+abbrev pub IsMadeText : List ℕ → String Global → Type 0
+IsMadeText text made = (length text ≤ TEXT_LIMIT) × (string_bytes made ≡ text)
 
 -- why a text wasn't made, if there is one to make; if there is none, memory ran out
 abbrev pub IsOverlong : Option (List ℕ) → TextFault → Type 0

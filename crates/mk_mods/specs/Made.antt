@@ -8,18 +8,18 @@ use Rattle.mk_text.specs.Words.{words_of}
 use Rattle.mk_text.specs.declared.limits.TheConstants.{TEXT_LIMIT}
 use Rattle.mk_text.specs.declared.limits.TextFault.{TextFault}
 use Rattle.mk_text.specs.TextLimit.{IsTooLong}
-use Rattle.mk_glob.specs.Matching.{fits}
+use Rattle.mk_glob.specs.Matcher.{fits}
 use Rattle.mk_mods.specs.declared.modifiers.Substitution.{Substitution}
 use Rattle.mk_mods.specs.declared.word_maps.WordChange.{WordChange}
 use Rattle.mk_mods.specs.Actions.{replacement_of}
-use Rattle.mk_mods.specs.Joined.{joined, within_limit, with_word, IsMade, IsUnmade, IsOverlong}
+use Rattle.mk_mods.specs.Joined.{joined, within_limit, with_word, IsMadeText, IsUnmade, IsOverlong}
 use Rattle.mk_mods.specs.Substituted.{replaced, substituted, all_replaced}
-use Rattle.mk_mods.specs.Applied.{kept, words_substituted}
-use Rattle.mk_mods.specs.Views.{changed_by}
+use Rattle.mk_mods.specs.Applied.{keeps_word, words_substituted}
+use Rattle.mk_mods.specs.Views.{changed_word}
 
 -- if it succeeds, it made this text, which isn't too long
 abbrev pub MakesText : {F : Type 0} → Result (String Global) F → List ℕ → Type 0
-MakesText result text = IfOk result (IsMade text)
+MakesText result text = IfOk result (IsMadeText text)
 
 -- if it fails, this text is too long
 abbrev pub FailsTooLong : {R : Type 0} → Result R TextFault → List ℕ → Type 0
@@ -52,11 +52,11 @@ FailsToAdd result before word = IfErr result (IsTooLong (with_word (string_bytes
 
 -- the words of a value that match a pattern, or those that don't
 abbrev pub kept_words : Bool → List ℕ → List ℕ → List (List ℕ)
-kept_words matching pattern value = filter (λ word. kept matching (fits pattern word)) (words_of value)
+kept_words matching pattern value = filter (λ word. keeps_word matching (fits pattern word)) (words_of value)
 
 -- what a change makes of each word of a value
 abbrev pub changed_words : WordChange → List ℕ → List (List ℕ)
-changed_words change value = map (changed_by change) (words_of value)
+changed_words change value = map (changed_word change) (words_of value)
 
 -- a word with the new text in place of the old one; None if it doesn't match
 abbrev pub word_replaced : Substitution → List ℕ → List ℕ → List ℕ → Option (List ℕ)

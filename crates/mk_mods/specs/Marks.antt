@@ -3,6 +3,7 @@ use Rattle.std.specs.Prelude.{ℕ, Bool, false, ◌==◌, List, [], ◌∷◌, m
 use Rattle.std.specs.Char.{encode_utf8}
 use Rattle.std.specs.Str.{chars}
 use Rattle.std.specs.List.{flat_map}
+use Rattle.general_facts.specs.Ascii.{dollar}
 use Rattle.mk_ref.specs.Units.{units_of, left_of}
 use Rattle.mk_ref.specs.Pieces.{TextPiece, LiteralPiece, EscapedDollarPiece, ReferencePiece, pieces_of}
 
@@ -19,13 +20,13 @@ piece_marks (ReferencePiece written name modifiers) = Written written ∷ []
 
 -- if this is left of a text after its units, the text has its marks only if nothing is left, that is, if
 -- each reference ends
-abbrev pub where_whole : List ℕ → List TextMark → Option (List TextMark)
-where_whole [] marks = Some marks
-where_whole (b ∷ left) marks = None
+abbrev pub marks_if_whole : List ℕ → List TextMark → Option (List TextMark)
+marks_if_whole [] marks = Some marks
+marks_if_whole (b ∷ left) marks = None
 
 -- the marks of a text; None if a reference doesn't end
 unfoldable pub marks_of : List ℕ → Option (List TextMark)
-marks_of text = where_whole (left_of text) (flat_map piece_marks (pieces_of (units_of text)))
+marks_of text = marks_if_whole (left_of text) (flat_map piece_marks (pieces_of (units_of text)))
 
 -- whether a mark is this character
 abbrev pub is_char : ℕ → TextMark → Bool
@@ -33,8 +34,8 @@ is_char c (Char d) = d == c
 is_char c EscapedDollar = false
 is_char c (Written source) = false
 
--- what a mark is written as (36 is the dollar)
+-- what a mark is written as
 abbrev pub mark_source : TextMark → List ℕ
 mark_source (Char c) = encode_utf8 c
-mark_source EscapedDollar = 36 ∷ 36 ∷ []
+mark_source EscapedDollar = dollar ∷ dollar ∷ []
 mark_source (Written source) = source

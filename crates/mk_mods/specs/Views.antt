@@ -6,7 +6,7 @@ use Rattle.std.specs.List.{flat_map}
 use Rattle.std.specs.declared.alloc.Global.{Global}
 use Rattle.mk_mods.specs.declared.modifiers.Modifier.{Modifier}
 use Rattle.mk_mods.specs.declared.modifiers.Part.{Part}
-use Rattle.mk_mods.specs.declared.reading.Mods.{Mods}
+use Rattle.mk_mods.specs.declared.mods.Mods.{Mods}
 use Rattle.mk_mods.specs.declared.word_maps.WordChange.{WordChange}
 use Rattle.mk_mods.specs.declared.word_maps.WordChange.TheVariants as changes
 use Rattle.mk_mods.specs.WordChanges.{word_change, with_suffix}
@@ -14,10 +14,10 @@ use Rattle.mk_mods.specs.declared.marks.Mark.{Mark}
 use Rattle.mk_mods.specs.declared.marks.Mark.TheVariants as marks
 use Rattle.mk_mods.specs.declared.signs.SubstitutionSign.{SubstitutionSign}
 use Rattle.mk_mods.specs.declared.signs.SubstitutionSign.TheVariants as signs
-use Rattle.mk_mods.specs.declared.reading.ModsFault.{ModsFault}
-use Rattle.mk_mods.specs.declared.reading.ModsFault.TheVariants as faults
-use Rattle.mk_ref.specs.declared.cutting.PiecesFault.{PiecesFault}
-use Rattle.mk_ref.specs.declared.cutting.PiecesFault.TheVariants as pieces_faults
+use Rattle.mk_mods.specs.declared.mods.ModsFault.{ModsFault}
+use Rattle.mk_mods.specs.declared.mods.ModsFault.TheVariants as faults
+use Rattle.mk_ref.specs.declared.piece.PiecesFault.{PiecesFault}
+use Rattle.mk_ref.specs.declared.piece.PiecesFault.TheVariants as pieces_faults
 use Rattle.mk_mods.specs.Actions.{Action, Symbol, Byte, action_of, symbols_of}
 use Rattle.mk_mods.specs.Marks.{TextMark, Char, EscapedDollar, Written, mark_source}
 use Rattle.mk_mods.specs.Signs.{TextSign, Plain, Bare, Inner, escaped, sign_at, sign_symbols}
@@ -44,9 +44,9 @@ unread_by (pieces_faults.Unclosed at) = faults.BadMod
 unread_by (pieces_faults.Memory refused) = faults.Memory refused
 
 -- what a change makes of a word
-abbrev pub changed_by : WordChange → List ℕ → List ℕ
-changed_by (changes.Map word_map) word = word_change word_map word
-changed_by (changes.Suffix old new) word = with_suffix old.now new.now word
+abbrev pub changed_word : WordChange → List ℕ → List ℕ
+changed_word (changes.Map word_map) word = word_change word_map word
+changed_word (changes.Suffix old new) word = with_suffix old.now new.now word
 
 -- if it succeeds, it added this text
 abbrev pub AddsText : {R F : Type 0} → Result R F → String Global → String Global → List ℕ → Type 0

@@ -4,6 +4,7 @@ use Rattle.std.specs.Prelude.{ℕ, ◌==◌, ◌-◌, nat_eq, List, [], ◌∷�
 use Rattle.std.specs.List.{ends_with}
 use Rattle.std.specs.Option.{option_map_or}
 use Rattle.std.specs.Char.{to_ascii_lowercase, to_ascii_uppercase}
+use Rattle.general_facts.specs.Ascii.{dot, slash}
 use Rattle.mk_mods.specs.declared.modifiers.WordMap.{WordMap}
 use Rattle.mk_mods.specs.declared.modifiers.WordMap.TheVariants as maps
 
@@ -20,15 +21,15 @@ around_last byte (b ∷ rest) = around_here byte b rest (around_last byte rest)
 
 -- a head, or a slash if that is empty
 abbrev pub or_slash : List ℕ → List ℕ
-or_slash [] = 47 ∷ []
+or_slash [] = slash ∷ []
 or_slash (b ∷ rest) = b ∷ rest
 
--- 46 is the dot, 47 the slash
+-- what a map makes of a word
 abbrev pub word_change : WordMap → List ℕ → List ℕ
-word_change maps.Root word = option_map_or (λ parts. parts.0) (around_last 46 word) word
-word_change maps.Extension word = option_map_or (λ parts. parts.1) (around_last 46 word) []
-word_change maps.Head word = option_map_or (λ parts. or_slash parts.0) (around_last 47 word) (46 ∷ [])
-word_change maps.Tail word = option_map_or (λ parts. parts.1) (around_last 47 word) word
+word_change maps.Root word = option_map_or (λ parts. parts.0) (around_last dot word) word
+word_change maps.Extension word = option_map_or (λ parts. parts.1) (around_last dot word) []
+word_change maps.Head word = option_map_or (λ parts. or_slash parts.0) (around_last slash word) (dot ∷ [])
+word_change maps.Tail word = option_map_or (λ parts. parts.1) (around_last slash word) word
 word_change maps.Lower word = map to_ascii_lowercase word
 word_change maps.Upper word = map to_ascii_uppercase word
 

@@ -1,11 +1,11 @@
 //! The marks of a text of modifiers: its characters, its pairs and its references.
 ghost use Rattle.std.specs.Prelude.{◌≡◌, map, Some, IfOk, IfErr};
 ghost use Rattle.std.specs.Str.{chars};
-ghost use Rattle.mk_ref.specs.Places.{shown, IsPieceIn};
+ghost use Rattle.mk_ref.specs.Places.{piece_in_text, IsPieceIn};
 ghost use Rattle.mk_mods.specs.Marks.{marks_of, piece_marks, is_char, mark_source, Char};
 ghost use Rattle.mk_mods.specs.Views.{shown_mark, IsUnread, AddsText, AddsMarks};
 
-use crate::reading::ModsFault;
+use crate::mods::ModsFault;
 use mk_ref::{Piece, pieces};
 use std::alloc::{AllocError, Global};
 
@@ -58,7 +58,7 @@ pub(crate) fn marks(alloc: Global, text: &str) -> Result<Vec<Mark<'_>>, ModsFaul
 /// Adds the marks of a piece of a text.
 fn push_piece<'t>(marks: &mut Vec<Mark<'t>>, piece: &Piece, text: &'t str) -> Result<(), AllocError>
     requires { IsPieceIn text.now piece.now }
-    ensures { AddsMarks result marks.old marks.new (piece_marks (shown text.now piece.now)) }
+    ensures { AddsMarks result marks.old marks.new (piece_marks (piece_in_text text.now piece.now)) }
 {
     match piece {
         Piece::Literal(span) => push_chars(marks, span.of(text))?,

@@ -6,7 +6,7 @@ ghost use Rattle.mk_mods.specs.Views.{MakesParts, AddsSign, LeavesSymbols, symbo
 
 use crate::marks::Mark;
 use crate::modifiers::Part;
-use crate::reading::ModsFault;
+use crate::mods::ModsFault;
 use std::alloc::{AllocError, Global};
 
 /// A character or a reference of the old or the new text of `:S`.

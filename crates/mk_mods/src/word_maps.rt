@@ -2,10 +2,10 @@
 ghost use Rattle.std.specs.Prelude.{◌≡◌, ◌≤◌, ◌++◌, length, string_bytes};
 ghost use Rattle.mk_mods.specs.Made.{AddsWord, FailsToAdd};
 ghost use Rattle.mk_mods.specs.WordChanges.{word_change, with_suffix};
-ghost use Rattle.mk_mods.specs.Views.{changed_by};
+ghost use Rattle.mk_mods.specs.Views.{changed_word};
 ghost use Rattle.mk_mods.specs.declared.modifiers.WordMap.TheVariants as maps;
 
-use crate::joining::add_word;
+use crate::joined_words::add_word;
 use crate::modifiers::WordMap;
 use mk_text::{TEXT_LIMIT, TextFault, add_text};
 use std::alloc::Global;
@@ -67,8 +67,8 @@ pub(crate) fn add_changed(
     word: &str,
 ) -> Result<(), TextFault>
     requires { length (string_bytes made.old) ≤ TEXT_LIMIT }
-    ensures ok { AddsWord result made.old made.new (changed_by change.entry word.now) }
-    ensures err { FailsToAdd result made.old (changed_by change.entry word.now) }
+    ensures ok { AddsWord result made.old made.new (changed_word change.entry word.now) }
+    ensures err { FailsToAdd result made.old (changed_word change.entry word.now) }
 {
     match change {
         WordChange::Map(map) => add_mapped(alloc, made, map, word),

@@ -9,7 +9,8 @@ use Rattle.text_parts.proofs.PartTexts.{parts_are_between, written_is_cut_again,
 use Rattle.std.specs.List.{list_all}
 use Rattle.std.specs.Option.{option_and_then}
 use Rattle.std.specs.Str.{bytes_eq}
-use Rattle.mk_paths.specs.FileName.{slash, is_plain, parts_of, kept_parts, with_part, without_last, joined, name_of, resolved, IsResolved}
+use Rattle.general_facts.specs.Ascii.{slash}
+use Rattle.mk_paths.specs.FileName.{is_plain, parts_of_name, kept_parts, with_part, without_last, with_slashes, name_of_parts, resolved, IsResolved}
 use Rattle.mk_paths.specs.declared.file_name.NameFault.TheVariants.{BadName}
 
 -- a byte between slashes
@@ -88,26 +89,26 @@ ok_of : (test : Bool) (wanted name : List ℕ) → cond test (Ok wanted) (Err Ba
 ok_of true wanted name e = cc
 ok_of false wanted name e = cc
 
-resolved_of : (first plain : Bool) (parts : Option (List (List ℕ))) (name : List ℕ) → cond (first && plain) (name_of parts) (Err BadName) ≡ Ok name
-    → (plain ≡ true) × (kept : List (List ℕ)) × (parts ≡ Some kept) × (name ≡ joined kept) × (name_of (Some kept) ≡ Ok name)
+resolved_of : (first plain : Bool) (parts : Option (List (List ℕ))) (name : List ℕ) → cond (first && plain) (name_of_parts parts) (Err BadName) ≡ Ok name
+    → (plain ≡ true) × (kept : List (List ℕ)) × (parts ≡ Some kept) × (name ≡ with_slashes kept) × (name_of_parts (Some kept) ≡ Ok name)
 resolved_of false plain parts name e = absurd cc
 resolved_of true false parts name e = absurd cc
 resolved_of true true None name e = absurd cc
-resolved_of true true (Some kept) name e = (refl, kept, refl, ok_of _ (joined kept) name e, e)
+resolved_of true true (Some kept) name e = (refl, kept, refl, ok_of _ (with_slashes kept) name e, e)
 
-again : (kept : List (List ℕ)) (name : List ℕ) → list_all is_kept kept ≡ true → name ≡ joined kept → name_of (Some kept) ≡ Ok name → IsResolved name
+again : (kept : List (List ℕ)) (name : List ℕ) → list_all is_kept kept ≡ true → name ≡ with_slashes kept → name_of_parts (Some kept) ≡ Ok name → IsResolved name
 unfolding kept_parts
 again [] name a same e = absurd cc
 again (part ∷ parts) name a same e =
-    let text = joined (part ∷ parts) in
-    let cut : parts_of text ≡ [] ∷ part ∷ parts = written_is_cut_again slash is_plain [] (part ∷ parts) (stand (part ∷ parts) a) in
-    let kept : kept_parts [] (parts_of text) ≡ Some (part ∷ parts) = ap (kept_parts []) cut ∙ kept_again [] (part ∷ parts) a in
+    let text = with_slashes (part ∷ parts) in
+    let cut : parts_of_name text ≡ [] ∷ part ∷ parts = written_is_cut_again slash is_plain [] (part ∷ parts) (stand (part ∷ parts) a) in
+    let kept : kept_parts [] (parts_of_name text) ≡ Some (part ∷ parts) = ap (kept_parts []) cut ∙ kept_again [] (part ∷ parts) a in
     let here : resolved text ≡ Ok name =
-    ap (λ b. cond b (name_of (kept_parts [] (parts_of text))) (Err BadName)) (written_parts_may_occur slash is_plain [] (part ∷ parts) refl (stand (part ∷ parts) a)) ∙ ap name_of kept ∙ e in
+    ap (λ b. cond b (name_of_parts (kept_parts [] (parts_of_name text))) (Err BadName)) (written_parts_may_occur slash is_plain [] (part ∷ parts) refl (stand (part ∷ parts) a)) ∙ ap name_of_parts kept ∙ e in
     record { itself = subst (λ bytes. resolved bytes ≡ Ok name) (sym same) here }
 
 -- what a text names is a name that names itself
 pub resolved-IsResolved : (text name : List ℕ) → resolved text ≡ Ok name → IsResolved name
 resolved-IsResolved text name e =
-    let r = resolved_of (eqb (get_or text 0 0) 47) (list_all is_plain text) (kept_parts [] (parts_of text)) name e in
-    again r.1 name (kept_stand [] (parts_of text) r.1 refl (parts_are_between slash is_plain text r.0) r.2) r.3 r.4
+    let r = resolved_of (eqb (get_or text 0 0) 47) (list_all is_plain text) (kept_parts [] (parts_of_name text)) name e in
+    again r.1 name (kept_stand [] (parts_of_name text) r.1 refl (parts_are_between slash is_plain text r.0) r.2) r.3 r.4

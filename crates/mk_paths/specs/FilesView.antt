@@ -1,5 +1,6 @@
 -- Files that can be asked, and what it is to ask them.
 use Rattle.std.specs.Prelude.{◌≡◌, ℕ, ◌+◌, ◌-◌, ◌^◌, min, Bool, List, [], ◌∷◌, ◌++◌, Option, Some, None, option_map}
+use Rattle.std.specs.Prelude.{Result, IfOk}
 use Rattle.std.proofs.Common.{refl, sym, ap, append-nil, append_assoc}
 use Rattle.std.specs.FinMap.{get, contains_key}
 use Rattle.mk_paths.specs.World.{FileMap, World}
@@ -21,8 +22,8 @@ pub record FilesView : Type 0 where
   pub failures : ℕ
 
 -- the world of these files with these settings
-abbrev pub world_of : FilesView → Settings → World
-world_of view settings = (view.files, settings)
+abbrev pub view_world : FilesView → Settings → World
+view_world view settings = (view.files, settings)
 
 -- the reply is the one that the files give
 abbrev pub IsReply : FileMap → List ℕ → Reply → Type 0
@@ -61,3 +62,11 @@ log_as_is (Some l) = ap Some (sym (append-nil l))
 -- no question
 pub noted-nothing : (world : FilesView) → world ≡ noted world []
 noted-nothing world = ap (λ log. record world { log = log }) (log_as_is world.log)
+
+-- where a question succeeds, the files answered whether this one is there
+abbrev pub AnswersPresence : {F : Type 0} → Result Bool F → FilesView → FilesView → List ℕ → Type 0
+AnswersPresence result old new name = IfOk result (λ there. Answers old new name (Presence there))
+
+-- where a question succeeds, the files answered with the content of this one, or that it isn't there
+abbrev pub AnswersContents : {F : Type 0} → Result (Option (List ℕ)) F → FilesView → FilesView → List ℕ → Type 0
+AnswersContents result old new name = IfOk result (λ content. Answers old new name (Contents content))

@@ -3,3 +3,4 @@ pub mod SearchPath
 pub mod World
 pub mod FilesView
 pub mod Place
+pub mod Parts

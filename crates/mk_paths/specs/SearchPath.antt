@@ -3,11 +3,9 @@ use Rattle.std.specs.Prelude.{ℕ, ◌==◌, nat_le, ◌&&◌, ◌||◌, if◌th
 use Rattle.std.specs.Prelude.{Option, Some, None, codes, IsTrue}
 use Rattle.std.specs.List.{slice_split, list_all}
 use Rattle.std.specs.Str.{bytes_eq}
-use Rattle.mk_paths.specs.FileName.{slash, is_plain}
-
--- the byte `:`
-abbrev pub colon : ℕ
-colon = 58
+use Rattle.general_facts.specs.Ascii.{colon}
+use Rattle.general_facts.specs.Ascii.{slash}
+use Rattle.mk_paths.specs.FileName.{is_plain}
 
 -- the trees of a search path, which colons separate
 abbrev pub trees_of : List ℕ → List (List ℕ)

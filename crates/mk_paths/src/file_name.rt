@@ -1,11 +1,13 @@
 // Names of files as a world of files knows them.
-ghost use Rattle.std.specs.Prelude.{◌≡◌, IfOk, IsErrOf, option_map, [], if◌then◌else◌};
+ghost use Rattle.std.specs.Prelude.{◌≡◌, IfOk, [], if◌then◌else◌};
 ghost use Rattle.refusals.specs.Refused.{refused};
 ghost use Rattle.std.specs.List.{list_all};
 ghost use Rattle.std.specs.String.{string_bytes};
-ghost use Rattle.mk_paths.specs.FileName.{resolved, IsResolved, name_under, directory_of, is_plain, kept_parts, with_part, joined};
+ghost use Rattle.mk_paths.specs.FileName.{resolved, IsResolved, name_under, directory_of, is_plain, with_slashes};
+ghost use Rattle.mk_paths.specs.FileName.{FailsLike, FailsUnder};
 ghost use Rattle.text_parts.specs.Cuts.{now_all};
 ghost use Rattle.mk_paths.specs.declared.file_name.NameFault.TheVariants.{Memory};
+ghost use Rattle.mk_paths.specs.Parts.{KeepsParts, TakesPart};
 
 use refusals::OutOfMemory;
 use std::alloc::{AllocError, Global};
@@ -68,9 +70,8 @@ impl Name {
     /// runs out, it is `Memory`.
     pub fn read(alloc: Global, text: &str) -> Result<Name, NameFault>
         ensures ok { IfOk result (λ name. resolved text.now ≡ Ok name) }
-        ensures bad_name { IsErrOf result NameFault.BadName
-            → resolved text.now ≡ Err NameFault.BadName }
-        ensures above { IsErrOf result NameFault.Above → resolved text.now ≡ Err NameFault.Above }
+        ensures bad_name { FailsLike result NameFault.BadName (resolved text.now) }
+        ensures above { FailsLike result NameFault.Above (resolved text.now) }
     {
         if !text.starts_with('/') || !is_plain_text(text) {
             return Err(NameFault::BadName);
@@ -92,10 +93,8 @@ impl Name {
     /// Its faults are those of `read` for that text.
     pub fn under(alloc: Global, directory: &str, file: &str) -> Result<Name, NameFault>
         ensures ok { IfOk result (λ name. resolved (name_under directory.now file.now) ≡ Ok name) }
-        ensures bad_name { IsErrOf result NameFault.BadName
-            → resolved (name_under directory.now file.now) ≡ Err NameFault.BadName }
-        ensures above { IsErrOf result NameFault.Above
-            → resolved (name_under directory.now file.now) ≡ Err NameFault.Above }
+        ensures bad_name { FailsUnder result NameFault.BadName directory.now file.now }
+        ensures above { FailsUnder result NameFault.Above directory.now file.now }
     {
         if file.starts_with('/') {
             return Name::read(alloc, file);
@@ -161,8 +160,7 @@ fn is_plain_text(text: &str) -> bool
 // The parts that are left when empty and `.` parts are dropped and each `..` removes the part before it;
 // `None` if a `..` has no part before it.
 fn kept_of<'a>(alloc: Global, parts: &[&'a str]) -> Result<Option<Vec<&'a str>>, AllocError>
-    ensures { IfOk result (λ kept. option_map (λ parts. now_all parts.items) kept
-        ≡ kept_parts [] (now_all parts.now)) }
+    ensures { KeepsParts result parts.now }
 {
     let mut kept = Vec::new(alloc);
     for part in parts {
@@ -177,8 +175,7 @@ fn kept_of<'a>(alloc: Global, parts: &[&'a str]) -> Result<Option<Vec<&'a str>>,
 // Takes the next part after those kept so far. It gives false if the part is a `..` with no part before
 // it, and otherwise true.
 fn take_part<'a>(kept: &mut Vec<&'a str>, part: &'a str) -> Result<bool, AllocError>
-    ensures { IfOk result (λ placed. with_part (now_all kept.old.items) part.now
-        ≡ (if placed then Some (now_all kept.new.items) else None)) }
+    ensures { TakesPart result kept.old.items kept.new.items part.now }
 {
     match part {
         "" | "." => Ok(true),
@@ -192,7 +189,7 @@ fn take_part<'a>(kept: &mut Vec<&'a str>, part: &'a str) -> Result<bool, AllocEr
 
 // The parts one after another, each after a slash.
 fn join(alloc: Global, parts: &[&str]) -> Result<String, AllocError>
-    ensures { IfOk result (λ text. string_bytes text ≡ joined (now_all parts.now)) }
+    ensures { IfOk result (λ text. string_bytes text ≡ with_slashes (now_all parts.now)) }
 {
     let mut text = String::new(alloc);
     for part in parts {

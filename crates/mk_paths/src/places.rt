@@ -1,11 +1,9 @@
 // Where a directory's makefile is.
-ghost use Rattle.std.specs.Prelude.{◌≡◌, IfOk, IfErr, OnOk};
-ghost use Rattle.std.specs.Result.{result_ok};
-ghost use Rattle.mk_paths.specs.FileName.{resolved};
-ghost use Rattle.mk_paths.specs.Place.{place_among, makefile_in, AsksPlaces, StopsAsking};
+ghost use Rattle.mk_paths.specs.Place.{FindsPlace, SeeksPlace};
+ghost use Rattle.mk_paths.specs.Place.{StopsSeeking, GivesCandidate};
 
-use crate::asking::{FilesFault, Names};
 use crate::file_name::{Name, NameFault};
+use crate::files::{FilesFault, Names};
 use crate::search_path::SearchPath;
 use std::alloc::{AllocError, Global};
 
@@ -22,12 +20,9 @@ pub fn find<N: Names>(
     path: &SearchPath,
     directory: &str,
 ) -> Result<Option<Name>, FilesFault>
-    ensures place { IfOk result (λ found. found
-        ≡ place_among (N.view names.old).files path.now directory.now) }
-    ensures asked { OnOk result (AsksPlaces (N.view names.old)
-        (N.view names.new) path.now directory.now) }
-    ensures fault { IfErr result (StopsAsking N.fails_with (N.view names.old)
-        (N.view names.new) path.now directory.now) }
+    ensures place { FindsPlace result (N.view names.old).files path.now directory.now }
+    ensures asked { SeeksPlace result (N.view names.old) (N.view names.new) path.now directory.now }
+    ensures fault { StopsSeeking N.Names result names.old names.new path.now directory.now }
 {
     let trees = path.trees();
     for tree in trees {
@@ -44,8 +39,7 @@ pub fn find<N: Names>(
 
 // The name of a directory's makefile in a tree; `None` if the text is no file name.
 fn candidate(alloc: Global, tree: &str, directory: &str) -> Result<Option<Name>, AllocError>
-    ensures { IfOk result (λ name. name
-        ≡ result_ok (resolved (makefile_in tree.now directory.now))) }
+    ensures { GivesCandidate result tree.now directory.now }
 {
     let mut text = String::from_str(alloc, tree)?;
     text.push_str("/")?;

@@ -5,8 +5,8 @@ use Rattle.mk_ref.specs.Units.{TextUnit, Byte, EscapedDollar, Reference, source,
 use Rattle.mk_ref.proofs.UnitSteps.{units-text}
 use Rattle.mk_ref.specs.Pieces.{TextPiece, LiteralPiece, EscapedDollarPiece, ReferencePiece, with_byte, pieces_of}
 use Rattle.std.proofs.lemmas.List.{drop_more, drop-map}
-use Rattle.mk_ref.specs.declared.cutting.Piece.{Piece}
-use Rattle.mk_ref.specs.Places.{shown, IsUnclosedAt}
+use Rattle.mk_ref.specs.declared.piece.Piece.{Piece}
+use Rattle.mk_ref.specs.Places.{piece_in_text, IsUnclosedAt}
 use Rattle.mk_ref.specs.Outside.{dollars, covered, covered_piece, outside}
 use Rattle.mk_ref.proofs.Alone.{cut-front}
 
@@ -93,9 +93,9 @@ outside-unclosed text at found unclosed is =
 
 -- the next piece
 pub covered-next : (text : List ℕ) (found : List Piece) (at : ℕ) (other : Piece) → at < length found
-    → flat_map covered_piece (drop at (map (shown text) found))
-    ≡ covered_piece (shown text (get_or found at other)) ++ flat_map covered_piece (drop (at + 1) (map (shown text) found))
+    → flat_map covered_piece (drop at (map (piece_in_text text) found))
+    ≡ covered_piece (piece_in_text text (get_or found at other)) ++ flat_map covered_piece (drop (at + 1) (map (piece_in_text text) found))
 covered-next text found at other near =
     ap (flat_map covered_piece)
-    (drop-map (shown text) at found ∙ ap (map (shown text)) (drop_more found at other near)
-    ∙ ap (λ l. shown text (get_or found at other) ∷ l) (sym (drop-map (shown text) (at + 1) found)))
+    (drop-map (piece_in_text text) at found ∙ ap (map (piece_in_text text)) (drop_more found at other near)
+    ∙ ap (λ l. piece_in_text text (get_or found at other) ∷ l) (sym (drop-map (piece_in_text text) (at + 1) found)))

@@ -7,11 +7,11 @@ use Rattle.std.proofs.lemmas.List.Elements.{All-nil, All-cons, All-append}
 use Rattle.std.proofs.Math.Seq.{drop-length}
 use Rattle.std.proofs.lemmas.Str.{IsCharBoundary-start, IsCharBoundary-end}
 use Rattle.general_facts.specs.Lists.{slice_range-one}
-use Rattle.mk_ref.specs.declared.cutting.Piece.{Piece}
-use Rattle.mk_ref.specs.declared.cutting.Piece.TheVariants as v
+use Rattle.mk_ref.specs.declared.piece.Piece.{Piece}
+use Rattle.mk_ref.specs.declared.piece.Piece.TheVariants as v
 use Rattle.mk_ref.specs.Units.{TextUnit, Byte, EscapedDollar, Reference, opening_of, unit_before, first_unit, cut_on, cut, units_of, left_of}
 use Rattle.mk_ref.specs.Pieces.{TextPiece, LiteralPiece, with_byte, pieces_of}
-use Rattle.mk_ref.specs.Places.{shown, place_of, FollowFrom, IsPieceIn, IsUnclosedAt}
+use Rattle.mk_ref.specs.Places.{piece_in_text, span_of_piece, FollowFrom, IsPieceIn, IsUnclosedAt}
 use Rattle.mk_ref.specs.Firsts.{literal_at, IsAlone, IsPieceAt}
 use Rattle.mk_ref.proofs.UnitSteps.{cut-next, first-nil}
 use Rattle.mk_ref.proofs.ScanSteps.{first-opening}
@@ -19,7 +19,7 @@ use Rattle.mk_ref.proofs.InsideSteps.{range_join, range_none, length-range}
 
 -- the pieces found before `literal`, and the bytes from there up to `at`, which mean themselves
 pub record CutSoFar (text : List ℕ) (found : List Piece) (literal at : ℕ) : Type 0 where
-  pub pieces : map (shown text) found ++ pieces_of (map Byte (slice_range text literal at) ++ units_of (drop at text)) ≡ pieces_of (units_of text)
+  pub pieces : map (piece_in_text text) found ++ pieces_of (map Byte (slice_range text literal at) ++ units_of (drop at text)) ≡ pieces_of (units_of text)
   pub left : left_of (drop at text) ≡ left_of text
   pub order : FollowFrom 0 found literal
   pub places : All (IsPieceIn text) found
@@ -56,7 +56,7 @@ so_far-byte text found literal at h near plain =
     let longer : slice_range text literal (at + 1) ≡ bytes ++ b ∷ [] =
     sym (range_join text literal at (at + 1) h.ordered (omega arith)) ∙ ap (λ l. bytes ++ l) (slice_range-one text at near) in
     record {
-      pieces = ap (λ l. map (shown text) found ++ pieces_of l)
+      pieces = ap (λ l. map (piece_in_text text) found ++ pieces_of l)
           (ap (λ l. map Byte l ++ units_of (drop (at + 1) text)) longer
           ∙ ap (λ l. l ++ units_of (drop (at + 1) text)) (map-append Byte bytes (b ∷ []))
           ∙ append_assoc (map Byte bytes) (Byte b ∷ []) (units_of (drop (at + 1) text))
@@ -107,11 +107,11 @@ no_literal (b ∷ bytes) none = absurd (omega arith)
 -- pieces that directly follow one another, in two parts
 stand_on : (start : ℕ) (found : List Piece) (middle : ℕ) (more : List Piece) (end : ℕ) → FollowFrom start found middle → FollowFrom middle more end → FollowFrom start (found ++ more) end
 stand_on start [] middle more end front back = subst (λ n. FollowFrom n more end) (sym front) back
-stand_on start (piece ∷ found) middle more end front back = (front.0, front.1, stand_on (place_of piece).end found middle more end front.2 back)
+stand_on start (piece ∷ found) middle more end front back = (front.0, front.1, stand_on (span_of_piece piece).end found middle more end front.2 back)
 
 -- what the literal from a place up to another is
 pub record IsLiteralAt (text : List ℕ) (start end : ℕ) (literal : List Piece) : Type 0 where
-  pub pieces : map (shown text) literal ≡ literal_pieces (slice_range text start end)
+  pub pieces : map (piece_in_text text) literal ≡ literal_pieces (slice_range text start end)
   pub order : FollowFrom start literal end
   pub places : All (IsPieceIn text) literal
 
@@ -134,21 +134,21 @@ literal_by false text start end is ordered within starts ends =
       places = All-nil (IsPieceIn text);
     }
 
-starts_cut : (text : List ℕ) (piece : Piece) → IsPieceIn text piece → IsCharBoundary text (place_of piece).start
+starts_cut : (text : List ℕ) (piece : Piece) → IsPieceIn text piece → IsCharBoundary text (span_of_piece piece).start
 starts_cut text (v.Literal span) is = is.starts
 starts_cut text (v.EscapedDollar span) is = is.0.starts
 starts_cut text (v.Reference reference) is = is.whole.starts
 
-ends_cut : (text : List ℕ) (piece : Piece) → IsPieceIn text piece → IsCharBoundary text (place_of piece).end
+ends_cut : (text : List ℕ) (piece : Piece) → IsPieceIn text piece → IsCharBoundary text (span_of_piece piece).end
 ends_cut text (v.Literal span) is = is.ends
 ends_cut text (v.EscapedDollar span) is = is.0.ends
 ends_cut text (v.Reference reference) is = is.whole.ends
 
 -- a pair or a reference, with the literal before it
 pub so_far-piece : (text : List ℕ) (found : List Piece) (literal at : ℕ) (piece : Piece) → CutSoFar text found literal at → IsPieceAt text at piece
-    → CutSoFar text ((found ++ literal_at literal at) ++ piece ∷ []) (place_of piece).end (place_of piece).end
+    → CutSoFar text ((found ++ literal_at literal at) ++ piece ∷ []) (span_of_piece piece).end (span_of_piece piece).end
 so_far-piece text found literal at piece h p =
-    let end : ℕ = (place_of piece).end in
+    let end : ℕ = (span_of_piece piece).end in
     let bytes : List ℕ = slice_range text literal at in
     let next = cut-first (drop at text) p.unit (drop end text) p.first in
     let here : IsCharBoundary text at = subst (IsCharBoundary text) p.start (starts_cut text piece p.places) in
@@ -156,13 +156,13 @@ so_far-piece text found literal at piece h p =
     let rest : List TextPiece = pieces_of (units_of (drop end text)) in
     let lit = literal_by (nat_lt literal at) text literal at refl h.ordered h.within h.starts here in
     record {
-      pieces = ap (λ l. map (shown text) ((found ++ before) ++ piece ∷ []) ++ pieces_of (map Byte l ++ units_of (drop end text))) (range_none text end)
-          ∙ ap (λ l. l ++ rest) (map-append (shown text) (found ++ before) (piece ∷ []) ∙ ap (λ l. l ++ shown text piece ∷ []) (map-append (shown text) found before))
-          ∙ append_assoc (map (shown text) found ++ map (shown text) before) (shown text piece ∷ []) rest
-          ∙ append_assoc (map (shown text) found) (map (shown text) before) (shown text piece ∷ rest)
-          ∙ ap (λ l. map (shown text) found ++ (l ++ shown text piece ∷ rest)) lit.pieces
-          ∙ ap (λ l. map (shown text) found ++ l)
-          (sym (ap (λ x. pieces_of (map Byte bytes ++ x.0)) next ∙ alone_after bytes p.unit (shown text piece) (units_of (drop end text)) p.alone))
+      pieces = ap (λ l. map (piece_in_text text) ((found ++ before) ++ piece ∷ []) ++ pieces_of (map Byte l ++ units_of (drop end text))) (range_none text end)
+          ∙ ap (λ l. l ++ rest) (map-append (piece_in_text text) (found ++ before) (piece ∷ []) ∙ ap (λ l. l ++ piece_in_text text piece ∷ []) (map-append (piece_in_text text) found before))
+          ∙ append_assoc (map (piece_in_text text) found ++ map (piece_in_text text) before) (piece_in_text text piece ∷ []) rest
+          ∙ append_assoc (map (piece_in_text text) found) (map (piece_in_text text) before) (piece_in_text text piece ∷ rest)
+          ∙ ap (λ l. map (piece_in_text text) found ++ (l ++ piece_in_text text piece ∷ rest)) lit.pieces
+          ∙ ap (λ l. map (piece_in_text text) found ++ l)
+          (sym (ap (λ x. pieces_of (map Byte bytes ++ x.0)) next ∙ alone_after bytes p.unit (piece_in_text text piece) (units_of (drop end text)) p.alone))
           ∙ h.pieces;
       left = ap (λ x. x.1) (sym next) ∙ h.left;
       order = stand_on 0 (found ++ literal_at literal at) at (piece ∷ []) end (stand_on 0 found literal (literal_at literal at) at h.order lit.order) (p.start, p.later, refl);
@@ -175,7 +175,7 @@ so_far-piece text found literal at piece h p =
 
 -- all pieces of a text
 pub record AllCut (text : List ℕ) (found : List Piece) : Type 0 where
-  pub pieces : map (shown text) found ≡ pieces_of (units_of text)
+  pub pieces : map (piece_in_text text) found ≡ pieces_of (units_of text)
   pub whole : left_of text ≡ []
   pub order : FollowFrom 0 found (length text)
   pub places : All (IsPieceIn text) found
@@ -190,8 +190,8 @@ all_at text found literal h =
     let none : cut (drop end text) ≡ ([], []) = ap cut (drop-length text) ∙ cut-nil in
     let lit = literal_by (nat_lt literal end) text literal end refl h.ordered h.within h.starts (IsCharBoundary-end text) in
     record {
-      pieces = map-append (shown text) found (literal_at literal end) ∙ ap (λ l. map (shown text) found ++ l) lit.pieces
-          ∙ ap (λ l. map (shown text) found ++ l) (sym (ap (λ x. pieces_of (map Byte bytes ++ x.0)) none ∙ bytes_last bytes))
+      pieces = map-append (piece_in_text text) found (literal_at literal end) ∙ ap (λ l. map (piece_in_text text) found ++ l) lit.pieces
+          ∙ ap (λ l. map (piece_in_text text) found ++ l) (sym (ap (λ x. pieces_of (map Byte bytes ++ x.0)) none ∙ bytes_last bytes))
           ∙ h.pieces;
       whole = sym h.left ∙ ap (λ x. x.1) none;
       order = stand_on 0 found literal (literal_at literal end) end h.order lit.order;

@@ -2,7 +2,8 @@
 use Rattle.std.specs.Prelude.{◌≡◌, ◌<◌, ◌≤◌, ℕ, ◌+◌, List, drop, length, Option, Some, None, option_map, slice_index}
 use Rattle.std.specs.Prelude.{slice_range, unwrap_or}
 use Rattle.std.specs.Option.{IfSome, MatchOption}
-use Rattle.mk_ref.specs.declared.ending.Inside.{Inside}
+use Rattle.general_facts.specs.Ascii.{colon as colon_byte}
+use Rattle.mk_ref.specs.declared.ends.Inside.{Inside}
 use Rattle.mk_ref.specs.Units.{TextUnit, sources, before_colon, following_colon, first_unit, up_to_mark}
 
 -- what follows the units that were read of a text from `start` on is the text from `end` on
@@ -29,7 +30,7 @@ pub record IsInside (text : List ℕ) (start mark : ℕ) (inside : Inside) : Typ
   pub marked : slice_index text inside.close ≡ mark
   pub name : sources (before_colon units) ≡ slice_range text start (unwrap_or inside.colon inside.close)
   pub modifiers : option_map sources (following_colon units) ≡ option_map (λ colon. slice_range text (colon + 1) inside.close) inside.colon
-  pub colon : IfSome inside.colon (λ colon. (start ≤ colon) × (colon < inside.close) × (slice_index text colon ≡ 58))
+  pub colon : IfSome inside.colon (λ colon. (start ≤ colon) × (colon < inside.close) × (slice_index text colon ≡ colon_byte))
 
 -- the same, or none if nothing closes it
 abbrev pub EndsInside : List ℕ → ℕ → ℕ → Option Inside → Type 0

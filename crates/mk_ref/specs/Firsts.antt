@@ -1,13 +1,13 @@
 -- The piece that a text has at a place.
 use Rattle.std.specs.Prelude.{◌≡◌, ◌<◌, ◌≤◌, ℕ, ◌+◌, nat_lt, List, [], ◌∷◌, length, drop, Option, Some, None}
 use Rattle.std.specs.Prelude.{option_map, unwrap_or, if◌then◌else◌}
-use Rattle.mk_ref.specs.declared.ending.Inside.{Inside}
-use Rattle.mk_ref.specs.declared.cutting.Reference.{Reference}
-use Rattle.mk_ref.specs.declared.cutting.Piece.{Piece}
-use Rattle.mk_ref.specs.declared.cutting.Piece.TheVariants as v
+use Rattle.mk_ref.specs.declared.ends.Inside.{Inside}
+use Rattle.mk_ref.specs.declared.piece.Reference.{Reference}
+use Rattle.mk_ref.specs.declared.piece.Piece.{Piece}
+use Rattle.mk_ref.specs.declared.piece.Piece.TheVariants as v
 use Rattle.mk_ref.specs.Units.{TextUnit, Byte, EscapedDollar, Reference as ReferenceUnit, first_unit}
 use Rattle.mk_ref.specs.Pieces.{TextPiece, EscapedDollarPiece, ReferencePiece}
-use Rattle.mk_ref.specs.Places.{shown, place_of, IsPieceIn}
+use Rattle.mk_ref.specs.Places.{piece_in_text, span_of_piece, IsPieceIn}
 
 -- the literal from a place up to another, unless it is empty
 abbrev pub literal_at : ℕ → ℕ → List Piece
@@ -30,11 +30,11 @@ IsAlone (ReferenceUnit written name modifiers) piece = piece ≡ ReferencePiece 
 -- the piece, a pair or a reference, that a text has at a place
 pub record IsPieceAt (text : List ℕ) (at : ℕ) (piece : Piece) : Type 0 where
   pub unit : TextUnit
-  pub first : first_unit (drop at text) ≡ Some (unit, drop (place_of piece).end text)
-  pub alone : IsAlone unit (shown text piece)
-  pub start : (place_of piece).start ≡ at
-  pub later : at < (place_of piece).end
-  pub within : (place_of piece).end ≤ length text
+  pub first : first_unit (drop at text) ≡ Some (unit, drop (span_of_piece piece).end text)
+  pub alone : IsAlone unit (piece_in_text text piece)
+  pub start : (span_of_piece piece).start ≡ at
+  pub later : at < (span_of_piece piece).end
+  pub within : (span_of_piece piece).end ≤ length text
   pub places : IsPieceIn text piece
 
 -- the same, or none if a reference begins there that doesn't end

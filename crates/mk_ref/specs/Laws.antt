@@ -3,6 +3,7 @@ use Rattle.std.specs.Prelude.{◌≡◌, ◌≢◌, ◌⊎◌, ◌↔◌, ℕ, t
 use Rattle.std.specs.Prelude.{Some, None, IfSome, All, map, if◌then◌else◌}
 use Rattle.std.specs.Char.{is_ascii_alphabetic}
 use Rattle.std.specs.List.{flat_map, list_any}
+use Rattle.general_facts.specs.Ascii.{dollar, left_paren, right_paren, colon, left_brace, right_brace}
 use Rattle.mk_ref.specs.Outside.{outside}
 use Rattle.mk_ref.specs.declared.opening.Opening.TheVariants.{Marked}
 use Rattle.mk_ref.specs.Pieces.{units_in, pieces_of}
@@ -16,17 +17,18 @@ UnitsAreText = (text : List ℕ) → sources (units_of text) ++ left_of text ≡
 -- modifiers with the colon before them
 abbrev pub with_colon : Option (List ℕ) → List ℕ
 with_colon None = []
-with_colon (Some modifiers) = 58 ∷ modifiers
+with_colon (Some modifiers) = colon ∷ modifiers
 
 -- the first two bytes of a reference and its closing mark: `${` and `}`, or `$(` and `)`
 abbrev pub AreMarks : List ℕ → ℕ → Type 0
-AreMarks front mark = ((front ≡ 36 ∷ 123 ∷ []) × (mark ≡ 125)) ⊎ ((front ≡ 36 ∷ 40 ∷ []) × (mark ≡ 41))
+AreMarks front mark =
+    ((front ≡ dollar ∷ left_brace ∷ []) × (mark ≡ right_brace)) ⊎ ((front ≡ dollar ∷ left_paren ∷ []) × (mark ≡ right_paren))
 
 -- a reference of one letter: a `$` and its name, without modifiers
 pub record IsLetterReference (written name : List ℕ) (modifiers : Option (List ℕ)) : Type 0 where
   pub letter : ℕ
   pub is_letter : is_ascii_alphabetic letter ≡ true
-  pub written_as : written ≡ 36 ∷ letter ∷ []
+  pub written_as : written ≡ dollar ∷ letter ∷ []
   pub named : name ≡ letter ∷ []
   pub bare : modifiers ≡ None
 
@@ -81,20 +83,20 @@ abbrev pub ReadGoesOn : Type 0
 ReadGoesOn = (mark b : ℕ) (rest : List ℕ)
     → up_to_mark mark (b ∷ rest) ≡ (if b == mark then Some ([], rest) else with_more (up_to_mark mark) (first_unit (b ∷ rest)))
 
--- a text without a dollar (36) is cut into its bytes, and nothing is left
+-- a text without a dollar is cut into its bytes, and nothing is left
 abbrev pub DollarsAlonePartTexts : Type 0
-DollarsAlonePartTexts = (text : List ℕ) → list_any (λ b. b == 36) text ≡ false → cut text ≡ (map Byte text, [])
+DollarsAlonePartTexts = (text : List ℕ) → list_any (λ b. b == dollar) text ≡ false → cut text ≡ (map Byte text, [])
 
--- what `outside` gives is as long as the text, and each of its bytes that isn't a dollar (36) is the text's
+-- what `outside` gives is as long as the text, and each of its bytes that isn't a dollar is the text's
 -- byte at the same place
 abbrev pub OutsideKeepsPlaces : Type 0
 OutsideKeepsPlaces = (text : List ℕ)
     → (length (outside text) ≡ length text)
-    × ((at : ℕ) → slice_index (outside text) at ≢ 36 → slice_index (outside text) at ≡ slice_index text at)
+    × ((at : ℕ) → slice_index (outside text) at ≢ dollar → slice_index (outside text) at ≡ slice_index text at)
 
 -- a mark that closes a reference: `}` or `)`
 abbrev pub ClosesReferences : ℕ → Type 0
-ClosesReferences mark = (mark ≡ 125) ⊎ (mark ≡ 41)
+ClosesReferences mark = (mark ≡ right_brace) ⊎ (mark ≡ right_paren)
 
 -- A text is what these units are written as, a mark, and a rest. Before the mark it is cut into just these units,
 -- with nothing left, and none of them is the mark itself. So the mark is the first one outside references.

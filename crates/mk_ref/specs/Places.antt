@@ -1,34 +1,34 @@
 -- Pieces as places in their text.
 use Rattle.std.specs.Prelude.{◌≡◌, ◌⊎◌, ◌<◌, ℕ, ◌+◌, List, [], ◌∷◌, length, drop, Option, Some, None, option_map, ⊤}
 use Rattle.std.specs.Option.{IfSome}
-use Rattle.mk_text.specs.declared.splitting.Span.{Span}
+use Rattle.mk_text.specs.declared.span.Span.{Span}
 use Rattle.mk_text.specs.Words.{span_text, IsSpanOf}
-use Rattle.mk_ref.specs.declared.cutting.Reference.{Reference}
-use Rattle.mk_ref.specs.declared.cutting.Piece.{Piece}
-use Rattle.mk_ref.specs.declared.cutting.Piece.TheVariants as v
-use Rattle.mk_ref.specs.declared.cutting.PiecesFault.{PiecesFault}
-use Rattle.mk_ref.specs.declared.cutting.PiecesFault.TheVariants as f
+use Rattle.mk_ref.specs.declared.piece.Reference.{Reference}
+use Rattle.mk_ref.specs.declared.piece.Piece.{Piece}
+use Rattle.mk_ref.specs.declared.piece.Piece.TheVariants as v
+use Rattle.mk_ref.specs.declared.piece.PiecesFault.{PiecesFault}
+use Rattle.mk_ref.specs.declared.piece.PiecesFault.TheVariants as f
 use Rattle.mk_ref.specs.Units.{left_of}
 use Rattle.mk_ref.specs.Pieces.{TextPiece, LiteralPiece, EscapedDollarPiece, ReferencePiece}
 
 -- a piece, with the parts of the text at its places
-abbrev pub shown : List ℕ → Piece → TextPiece
-shown text (v.Literal span) = LiteralPiece (span_text text span)
-shown text (v.EscapedDollar span) = EscapedDollarPiece
-shown text (v.Reference reference) =
+abbrev pub piece_in_text : List ℕ → Piece → TextPiece
+piece_in_text text (v.Literal span) = LiteralPiece (span_text text span)
+piece_in_text text (v.EscapedDollar span) = EscapedDollarPiece
+piece_in_text text (v.Reference reference) =
     ReferencePiece (span_text text reference.whole) (span_text text reference.name) (option_map (span_text text) reference.modifiers)
 
 -- the place of a whole piece
-abbrev pub place_of : Piece → Span
-place_of (v.Literal span) = span
-place_of (v.EscapedDollar span) = span
-place_of (v.Reference reference) = reference.whole
+abbrev pub span_of_piece : Piece → Span
+span_of_piece (v.Literal span) = span
+span_of_piece (v.EscapedDollar span) = span
+span_of_piece (v.Reference reference) = reference.whole
 
 -- pieces follow one another directly, from one place up to another, and none of them is empty
 abbrev pub FollowFrom : ℕ → List Piece → ℕ → Type 0
 FollowFrom start [] end = start ≡ end
 FollowFrom start (piece ∷ pieces) end =
-    ((place_of piece).start ≡ start) × (start < (place_of piece).end) × FollowFrom (place_of piece).end pieces end
+    ((span_of_piece piece).start ≡ start) × (start < (span_of_piece piece).end) × FollowFrom (span_of_piece piece).end pieces end
 
 -- where the modifiers of a reference end, or its name if it has none
 abbrev pub inside_end : Span → Option Span → ℕ

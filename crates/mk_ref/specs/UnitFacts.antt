@@ -3,8 +3,9 @@ use Rattle.std.proofs.Common.{◌≡◌, ◌≢◌, ◌∙◌, refl, sym, ap, su
 use Rattle.std.proofs.Common.{ℕ, List, [], ◌∷◌, ◌++◌, length, option_map}
 use Rattle.std.proofs.lemmas.Bool.Decides.{eqb_tells}
 use Rattle.std.proofs.lemmas.List.{length-drop}
-use Rattle.mk_ref.specs.declared.cutting.PiecesFault.{PiecesFault}
-use Rattle.mk_ref.specs.declared.cutting.PiecesFault.TheVariants as faults
+use Rattle.general_facts.specs.Ascii.{dollar}
+use Rattle.mk_ref.specs.declared.piece.PiecesFault.{PiecesFault}
+use Rattle.mk_ref.specs.declared.piece.PiecesFault.TheVariants as faults
 use Rattle.mk_ref.specs.Laws.{with_colon}
 use Rattle.mk_ref.specs.Places.{IsUnclosedAt, IsFaultOf}
 use Rattle.mk_ref.specs.Units.{TextUnit, Byte, EscapedDollar, Reference, sources, before_colon, following_colon, left_of}
@@ -18,7 +19,7 @@ around_colon (Byte b ∷ units) =
       | inl colon ↦ rw colon.0 (ap (λ n. n ∷ sources units) (sym colon.1))
       | inr other ↦ rw other.0 (ap (λ l. b ∷ l) (around_colon units))
     ]
-around_colon (EscapedDollar ∷ units) = ap (λ l. 36 ∷ 36 ∷ l) (around_colon units)
+around_colon (EscapedDollar ∷ units) = ap (λ l. dollar ∷ dollar ∷ l) (around_colon units)
 around_colon (Reference written name modifiers ∷ units) =
     append_assoc written (sources (before_colon units)) (with_colon (option_map sources (following_colon units)))
     ∙ ap (λ l. written ++ l) (around_colon units)

@@ -6,6 +6,7 @@ use Rattle.std.specs.Prelude.{◌==◌, ℕ, suc, zero, Bool, false, List, [], �
 use Rattle.std.specs.Prelude.{None, option_map, if◌then◌else◌}
 use Rattle.std.specs.Char.{is_ascii_alphabetic}
 use Rattle.std.specs.List.{flat_map}
+use Rattle.general_facts.specs.Ascii.{dollar, left_paren, right_paren, colon, left_brace, right_brace}
 use Rattle.mk_ref.specs.declared.opening.Opening.{Opening}
 use Rattle.mk_ref.specs.declared.opening.Opening.TheVariants.{Doubled, Letter, Marked}
 
@@ -17,19 +18,19 @@ pub data TextUnit : Type 0 where
   EscapedDollar : TextUnit
   Reference : List ℕ → List ℕ → Option (List ℕ) → TextUnit
 
--- what a unit is written as (36 is the dollar)
+-- what a unit is written as
 abbrev pub source : TextUnit → List ℕ
 source (Byte b) = b ∷ []
-source EscapedDollar = 36 ∷ 36 ∷ []
+source EscapedDollar = dollar ∷ dollar ∷ []
 source (Reference written name modifiers) = written
 
 -- what units are written as, one after another
 abbrev pub sources : List TextUnit → List ℕ
 sources units = flat_map source units
 
--- a colon outside references (58 is `:`)
+-- a colon outside references
 abbrev pub is_colon : TextUnit → Bool
-is_colon (Byte b) = b == 58
+is_colon (Byte b) = b == colon
 is_colon EscapedDollar = false
 is_colon (Reference written name modifiers) = false
 
@@ -44,21 +45,21 @@ following_colon [] = None
 following_colon (unit ∷ units) = if is_colon unit then Some units else following_colon units
 
 -- What a `$` makes with what follows it. With a second `$` it makes a pair, and with an ASCII letter a
--- reference of one letter. With `{` (123) or `(` (40) it begins a reference, which `}` (125) or `)` (41)
+-- reference of one letter. With `{` or `(` it begins a reference, which `}` or `)`
 -- closes. With anything else, or nothing, it is itself.
 abbrev pub opening_after : List ℕ → Option Opening
 opening_after [] = None
 opening_after (b ∷ rest) =
-    if b == 36 then Some Doubled
-    else if b == 123 then Some (Marked 125)
-    else if b == 40 then Some (Marked 41)
+    if b == dollar then Some Doubled
+    else if b == left_brace then Some (Marked right_brace)
+    else if b == left_paren then Some (Marked right_paren)
     else if is_ascii_alphabetic b then Some Letter
     else None
 
 -- what a text begins with, if that is a `$` which makes more than itself; it takes two bytes
 abbrev pub opening_of : List ℕ → Option Opening
 opening_of [] = None
-opening_of (b ∷ rest) = if b == 36 then opening_after rest else None
+opening_of (b ∷ rest) = if b == dollar then opening_after rest else None
 
 -- the reference that begins with these two bytes and has these units inside and this closing mark
 abbrev pub marked_reference : List ℕ → List TextUnit → ℕ → TextUnit

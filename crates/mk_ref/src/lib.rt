@@ -1,13 +1,12 @@
 //! References in texts of the make language, as places in the text.
 #![tactic(auto)]
 
-mod cutting;
-mod ending;
+mod ends;
 mod laws;
 mod opening;
 mod outside_text;
+mod piece;
 
-pub use cutting::{Piece, PiecesFault, Reference, pieces};
 pub use laws::{
     cut_goes_on, dollars_alone_part_texts, insides_are_cut_alone, only_the_unclosed_is_left,
     outside_keeps_places, parts_are_whole, pieces_are_units, read_goes_on, reads_to_the_first_mark,
@@ -15,3 +14,4 @@ pub use laws::{
 };
 pub use opening::{Opening, opening_at};
 pub use outside_text::outside;
+pub use piece::{Piece, PiecesFault, Reference, pieces};

@@ -1,10 +1,10 @@
 //! What of a text is outside references.
 ghost use Rattle.std.specs.Prelude.{◌≡◌, ◌++◌, map, All, IfOk, OnOk};
 ghost use Rattle.std.specs.List.{flat_map};
-ghost use Rattle.mk_ref.specs.Places.{shown, IsPieceIn, IsUnclosedAt};
+ghost use Rattle.mk_ref.specs.Places.{piece_in_text, IsPieceIn, IsUnclosedAt};
 ghost use Rattle.mk_ref.specs.Outside.{outside, dollars, covered_piece};
 
-use crate::cutting::{Piece, PiecesFault, pieces};
+use crate::piece::{Piece, PiecesFault, pieces};
 use std::alloc::{AllocError, Global};
 
 /// The bytes of `text`, with a dollar in place of each byte of references and pairs. A reference that
@@ -47,7 +47,7 @@ fn outside_up_to(alloc: Global, text: &str, at: usize) -> Result<Vec<u8>, AllocE
 fn covered(alloc: Global, text: &str, found: &[Piece]) -> Result<Vec<u8>, AllocError>
     requires { All (IsPieceIn text.now) found.now }
     ensures { IfOk result (λ bytes. bytes.items
-        ≡ flat_map covered_piece (map (shown text.now) found.now)) }
+        ≡ flat_map covered_piece (map (piece_in_text text.now) found.now)) }
 {
     let mut bytes = Vec::new(alloc);
     for piece in found {
@@ -60,7 +60,7 @@ fn covered(alloc: Global, text: &str, found: &[Piece]) -> Result<Vec<u8>, AllocE
 fn push_piece(bytes: &mut Vec<u8>, piece: &Piece, text: &str) -> Result<(), AllocError>
     requires { IsPieceIn text.now piece.now }
     ensures { OnOk result (bytes.new.items ≡ bytes.old.items
-        ++ covered_piece (shown text.now piece.now)) }
+        ++ covered_piece (piece_in_text text.now piece.now)) }
 {
     match piece {
         Piece::Literal(span) => bytes.extend_from_slice(span.of(text).as_bytes()),

@@ -3,11 +3,11 @@ use Rattle.std.proofs.Common.{◌≡◌, ◌∙◌, ℕ, suc, zero, Bool, true, 
 use Rattle.mk_base.specs.FaultAt.{FaultAt}
 use Rattle.mk_base.specs.Outcome.{Work, give, after, each, ◌>>=◌}
 use Rattle.mk_text.specs.Lines.{LogicalLine}
-use Rattle.mk_ast.specs.declared.parsing.ParseFault.{ParseFault}
+use Rattle.mk_ast.specs.declared.parser.ParseFault.{ParseFault}
 use Rattle.mk_ast.specs.Trees.{Tree, LineTree, ChoiceTree, LoopTree, Block, EmptyBlock, MoreBlock, Branches, NoBranches, ElifBranch, ElseBranch}
-use Rattle.mk_ast.specs.Parsing.{parsed}
+use Rattle.mk_ast.specs.Parser.{parsed}
 use Rattle.mk_paths.specs.World.{FileMap}
-use Rattle.mk_files.specs.Asking.{Account, quietly}
+use Rattle.mk_files.specs.Questions.{Account, quietly}
 use Rattle.mk_loop.specs.LoopWords.{LoopWords}
 use Rattle.mk_eval.specs.declared.state.EvalState.{EvalState}
 use Rattle.mk_eval.specs.Lines.{inside_turn}
@@ -15,9 +15,9 @@ use Rattle.mk_eval.specs.Includes.{Place, File, Opened}
 use Rattle.mk_eval.specs.Modules.{asks_modules, module_words, open_module}
 use Rattle.mk_eval.specs.Execution.{LineWorks, execute, execute_tree, execute_branches, turn_of}
 use Rattle.mk_eval.specs.Meaning.{enter, execute_read, blamed, blamed_at, open_line, include_module, include_modules, modules_after}
-use Rattle.mk_eval.specs.Running.{entering_at}
+use Rattle.mk_eval.specs.Steps.{entering_at}
 use Rattle.mk_eval.proofs.Stepping.{file_meaning-is}
-use Rattle.mk_step.specs.Machine.{Site, Frame, Lines, Later, Turns, Modules, Searches, Left, place_at, works_in, entering_in, numbered, rest, read_lines, file_lines, opened_lines, before, modules_at, do_tree, found_or, next_module, advance}
+use Rattle.mk_step.specs.Machine.{Site, Frame, Lines, Later, Turns, Modules, Searches, StateAndFrames, place_at, works_in, entering_in, numbered_line, rest, read_lines, file_lines, opened_lines, before, modules_at, do_tree, found_or, next_module, advance}
 
 pub after-after : {A B C F M : Type 0} (r : Result (A × M) (F × M)) (f : A → Work M F B) (g : B → Work M F C) → after (after r f) g ≡ after r (λ x. f x >>= g)
 after-after (Ok x) f g = refl
@@ -32,7 +32,7 @@ unfolding each
 each-cons turn s x xs m = refl
 
 -- what is still to be done once one thing is done
-abbrev pub onward : FileMap → List ℕ → Left → Work Account FaultAt EvalState
+abbrev pub onward : FileMap → List ℕ → StateAndFrames → Work Account FaultAt EvalState
 onward files makefile left = rest files makefile left.1 left.0
 
 -- a file that is entered, and then other frames
@@ -56,7 +56,7 @@ module _ (files : FileMap) (makefile : List ℕ) (site : Site) (block : Block) (
   works = works_in files makefile site
 
   -- what is left once a line or a block's head is done
-  abbrev left_by : Left → Work Account FaultAt Left
+  abbrev left_by : StateAndFrames → Work Account FaultAt StateAndFrames
   left_by done = give (done.0, done.1 ++ Lines site block ∷ frames)
 
   -- the frames that a line leaves, before those of its block
@@ -77,7 +77,7 @@ module _ (files : FileMap) (makefile : List ℕ) (site : Site) (block : Block) (
   then-modules line asked (Err end) = refl
 
   -- what is left of a line by what it opened
-  abbrev left_of_line : LogicalLine → EvalState → Opened → Work Account FaultAt Left
+  abbrev left_of_line : LogicalLine → EvalState → Opened → Work Account FaultAt StateAndFrames
   left_of_line line before_it opened =
       opened_lines site.levels opened >>= λ done. give (done.0, before done.1 (modules_at site line.line (asks_modules before_it opened.0)))
 
@@ -133,9 +133,9 @@ module _ (files : FileMap) (makefile : List ℕ) (site : Site) (frames : List Fr
 
   turn-by : (line : ℕ) (body : Block) (turn : LoopWords) (turns : List LoopWords) (s : EvalState) (r : Result (Unit {0} × Account) (FaultAt × Account))
       → after (after r (λ _. give (s, Lines (record site { loops = inside_turn site.loops turn }) body ∷ Turns site line body turns ∷ frames))) (onward files makefile)
-      ≡ after (after (after r (λ _. execute works' body (inside_turn site.loops turn) s)) (λ next. each (turn_of (works'.begins (numbered line)) (execute works' body) site.loops) next turns)) (rest files makefile frames)
+      ≡ after (after (after r (λ _. execute works' body (inside_turn site.loops turn) s)) (λ next. each (turn_of (works'.begins (numbered_line line)) (execute works' body) site.loops) next turns)) (rest files makefile frames)
   turn-by line body turn turns s (Ok (done, a)) =
-      sym (after-after (execute works' body (inside_turn site.loops turn) s a) (λ next. each (turn_of (works'.begins (numbered line)) (execute works' body) site.loops) next turns) (rest files makefile frames))
+      sym (after-after (execute works' body (inside_turn site.loops turn) s a) (λ next. each (turn_of (works'.begins (numbered_line line)) (execute works' body) site.loops) next turns) (rest files makefile frames))
   turn-by line body turn turns s (Err end) = refl
 
 -- modules that are searched for
@@ -146,7 +146,7 @@ module _ (files : FileMap) (makefile : List ℕ) (site : Site) (line : ℕ) (fra
   abbrev including : EvalState → List ℕ → Work Account FaultAt EvalState
   including = include_module (entering_in files makefile site) place line
 
-  abbrev left_found : Opened × List (List ℕ) → Work Account FaultAt Left
+  abbrev left_found : Opened × List (List ℕ) → Work Account FaultAt StateAndFrames
   left_found found = opened_lines site.levels found.0 >>= λ done. give (done.0, before done.1 (Searches site line found.1 ∷ frames))
 
   words-by : (s : EvalState) (r : Result (List (List ℕ) × Account) (FaultAt × Account))
@@ -182,9 +182,9 @@ module _ (files : FileMap) (makefile : List ℕ) (frames : List Frame) where
   advances (Later site (ElifBranch line block more)) s a = branch-by files makefile site frames block more s ((works_in files makefile site).holds site.loops line s a)
   advances (Later site (ElseBranch block)) s a = refl
   advances (Turns site line body []) s a =
-      ap (λ r. after r (rest files makefile frames)) (sym (each-nil (turn_of ((works_in files makefile site).begins (numbered line)) (execute (works_in files makefile site) body) site.loops) s a))
+      ap (λ r. after r (rest files makefile frames)) (sym (each-nil (turn_of ((works_in files makefile site).begins (numbered_line line)) (execute (works_in files makefile site) body) site.loops) s a))
   advances (Turns site line body (turn ∷ turns)) s a =
-      turn-by files makefile site frames line body turn turns s ((works_in files makefile site).begins (numbered line) a)
-      ∙ ap (λ r. after r (rest files makefile frames)) (sym (each-cons (turn_of ((works_in files makefile site).begins (numbered line)) (execute (works_in files makefile site) body) site.loops) s turn turns a))
+      turn-by files makefile site frames line body turn turns s ((works_in files makefile site).begins (numbered_line line) a)
+      ∙ ap (λ r. after r (rest files makefile frames)) (sym (each-cons (turn_of ((works_in files makefile site).begins (numbered_line line)) (execute (works_in files makefile site) body) site.loops) s turn turns a))
   advances (Modules site line) s a = words-by files makefile site line frames s (blamed (place_at files makefile site) line (quietly (module_words s.variables)) a)
   advances (Searches site line words) s a = searched files makefile site line frames words s a

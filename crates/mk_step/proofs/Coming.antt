@@ -1,22 +1,22 @@
 -- How an evaluation comes from one point to another, and what is known of the whole at each.
 use Rattle.std.proofs.Common.{◌≡◌, ◌≤◌, ◌∙◌, ◌++◌, ℕ, List, [], ◌∷◌, Option, Some, None, unwrap_or, Result, Ok, Err, refl, sym, ap, subst, arith}
-use Rattle.mk_base.specs.declared.metering.TheConstants.{UNITS}
+use Rattle.mk_base.specs.declared.budget.TheConstants.{UNITS}
 use Rattle.mk_base.specs.FaultAt.{FaultAt}
 use Rattle.mk_base.specs.Meter.{Meter, IsLater, IsLater-on}
 use Rattle.mk_base.specs.Outcome.{Work, left, after}
 use Rattle.mk_paths.specs.World.{FileMap, World, files_in}
 use Rattle.mk_paths.specs.FilesView.{FilesView, Question, noted}
-use Rattle.mk_files.specs.Asking.{Account, account, beside}
-use Rattle.mk_files.specs.Looking.{AfterQuestions}
+use Rattle.mk_files.specs.Questions.{Account, account, beside}
+use Rattle.mk_files.specs.AfterQuestions.{AfterQuestions}
 use Rattle.mk_paths.specs.declared.search_path.Settings.{Settings}
 use Rattle.mk_eval.specs.Meaning.{evaluated, means, questions_asked}
-use Rattle.mk_eval.specs.Sharing.{cost_of, questions_of}
+use Rattle.mk_eval.specs.Agreement.{cost_of, questions_of}
 use Rattle.mk_eval.specs.declared.state.EvalState.{EvalState}
 use Rattle.mk_eval.proofs.Shared.{Shared, with-nothing, with-both}
 use Rattle.mk_eval.proofs.Steady.{lowered}
 use Rattle.mk_eval.proofs.Logged.{noted-by}
-use Rattle.mk_step.specs.Machine.{Frame, Left, rest, advance}
-use Rattle.mk_step.specs.Points.{Point, limited, with_asked, ending, limited_end, HasCome, GoesOn, StopsWith, EndsSo}
+use Rattle.mk_step.specs.Machine.{Frame, StateAndFrames, rest, advance}
+use Rattle.mk_step.specs.Points.{Point, limited, with_asked, end_from_point, limited_end, HasCome, GoesOn, StopsWith, EndsSo}
 use Rattle.mk_step.proofs.Advancing.{onward, advances}
 use Rattle.mk_step.proofs.SharedSteps.{shared-advance, shared-rest}
 
@@ -67,10 +67,10 @@ module _ (old new : FilesView) (makefile : List ℕ) (frame : Frame) (frames : L
   abbrev pub asked : List Question
   asked = (shared-advance old.files makefile frame frames s).asks m
 
-  pub notes : (end : Result (Left × Account) (FaultAt × Account)) → AfterQuestions old new → advance old.files makefile frame frames s (account m old) ≡ end → (left end).log ≡ new.log → new ≡ noted old asked
+  pub notes : (end : Result (StateAndFrames × Account) (FaultAt × Account)) → AfterQuestions old new → advance old.files makefile frame frames s (account m old) ≡ end → (left end).log ≡ new.log → new ≡ noted old asked
   notes end asks is log = noted-by old new asked asks (sym log ∙ logs (shared-advance old.files makefile frame frames s) m old.log end is)
 
-  pub goes-step : (next : Left) → IsLater m m' → advance old.files makefile frame frames s (account m old) ≡ Ok (next, account m' new)
+  pub goes-step : (next : StateAndFrames) → IsLater m m' → advance old.files makefile frame frames s (account m old) ≡ Ok (next, account m' new)
       → GoesOn old.files point (record { makefile = makefile; frames = next.1; state = next.0; meter = m' }) asked
   goes-step next later is = record {
     ends = λ limit log low inside.
@@ -89,7 +89,7 @@ module _ (old new : FilesView) (makefile : List ℕ) (frame : Frame) (frames : L
 -- nothing is done
 pub goes-nowhere : (files : FileMap) (point : Point) → GoesOn files point point []
 goes-nowhere files point = record {
-  ends = λ limit log low inside. ap (ending files point limit) (sym (with-nothing log));
+  ends = λ limit log low inside. ap (end_from_point files point limit) (sym (with-nothing log));
   later = record { limit = refl; spent = omega arith; questions = omega arith };
 }
 
@@ -108,7 +108,7 @@ goes-on files first next last asked more one two = record {
   ends = λ limit log low inside.
       let reached : next.meter.spent ≤ limit = omega (arith, two.later.spent, low) in
       let below : limit ≤ next.meter.limit = omega (arith, one.later.limit, inside) in
-      one.ends limit log reached inside ∙ two.ends limit (with_asked log asked) low below ∙ ap (ending files last limit) (with-both log asked more);
+      one.ends limit log reached inside ∙ two.ends limit (with_asked log asked) low below ∙ ap (end_from_point files last limit) (with-both log asked more);
   later = IsLater-on one.later two.later;
 }
 
@@ -130,7 +130,7 @@ come-on world name flavors asked more old new fits has goes = record {
   ends = λ limit log low inside.
       let reached : old.meter.spent ≤ limit = omega (arith, goes.later.spent, low) in
       let below : limit ≤ old.meter.limit = omega (arith, has.limit, inside) in
-      has.ends limit log reached inside ∙ goes.ends limit (with_asked log asked) low below ∙ ap (ending (files_in world) new limit) (with-both log asked more);
+      has.ends limit log reached inside ∙ goes.ends limit (with_asked log asked) low below ∙ ap (end_from_point (files_in world) new limit) (with-both log asked more);
   limit = goes.later.limit ∙ has.limit;
   within = omega (arith, fits, goes.later.limit, has.limit);
 }

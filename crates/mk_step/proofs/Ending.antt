@@ -1,29 +1,29 @@
 -- What is known of a whole evaluation after a turn.
 use Rattle.std.proofs.Common.{◌≡◌, ◌≤◌, ◌++◌, ℕ, List, [], Option, Ok, Err, refl, arith}
-use Rattle.mk_base.specs.declared.metering.TheConstants.{UNITS}
-use Rattle.mk_base.specs.declared.stopping.Stop.{Stop}
-use Rattle.mk_base.specs.declared.stopping.Stop.TheVariants as stops
+use Rattle.mk_base.specs.declared.budget.TheConstants.{UNITS}
+use Rattle.mk_base.specs.declared.stops.Stop.{Stop}
+use Rattle.mk_base.specs.declared.stops.Stop.TheVariants as stops
 use Rattle.mk_base.specs.FaultAt.{FaultAt}
 use Rattle.mk_base.specs.Meter.{IsLater, full}
 use Rattle.mk_paths.specs.FilesView.{FilesView, Question}
 use Rattle.mk_paths.specs.declared.search_path.Settings.{Settings}
-use Rattle.mk_paths.specs.declared.asking.FilesFault.{FilesFault}
+use Rattle.mk_paths.specs.declared.files.FilesFault.{FilesFault}
 use Rattle.mk_eval.specs.Meaning.{means}
-use Rattle.mk_eval.specs.Sharing.{questions_of}
+use Rattle.mk_eval.specs.Agreement.{questions_of}
 use Rattle.mk_step.specs.Points.{Point, HasCome, GoesOn, StopsWith, EndsSo}
-use Rattle.mk_step.specs.Turning.{AsksMore, Begins, RunsOn, TellsIfDone, Leaves, IsNew, Spends, stopped}
+use Rattle.mk_step.specs.Turn.{AsksMore, BeginsMachine, RunsOn, TellsIfDone, Leaves, IsNew, Spends, stopped}
 use Rattle.mk_step.specs.Views.{point_of}
 use Rattle.mk_step.specs.declared.machine.Machine.{Machine}
 use Rattle.mk_step.proofs.Coming.{come-on, ends-so, fails-so, means-end, asks-end}
 
 module _ (may : FilesFault → Type 0) (old new : FilesView) (settings : Settings) (name : List ℕ) (flavors : Option (List (List ℕ))) where
   -- the beginning stopped
-  pub begin-tells : (stop : Stop FaultAt) → Begins may old new (old.files, settings) name flavors (Err stop) → TellsIfDone (stopped stop 0) (means (old.files, settings) name flavors)
+  pub begin-tells : (stop : Stop FaultAt) → BeginsMachine may old new (old.files, settings) name flavors (Err stop) → TellsIfDone (stopped stop 0) (means (old.files, settings) name flavors)
   begin-tells (stops.Fault fault) begins = means-end old.files settings name flavors begins.more (Err (fault, full UNITS)) begins.so
   begin-tells (stops.Store _) begins = tt
   begin-tells (stops.Memory _) begins = tt
 
-  pub begin-leaves : (stop : Stop FaultAt) → Begins may old new (old.files, settings) name flavors (Err stop) → Leaves may old new (old.files, settings) name flavors [] (stopped stop 0)
+  pub begin-leaves : (stop : Stop FaultAt) → BeginsMachine may old new (old.files, settings) name flavors (Err stop) → Leaves may old new (old.files, settings) name flavors [] (stopped stop 0)
   begin-leaves (stops.Fault fault) begins = record { more = begins.more; so = asks-end old.files settings name flavors begins.more (Err (fault, full UNITS)) begins.so; noted = begins.noted }
   begin-leaves (stops.Store _) begins = begins
   begin-leaves (stops.Memory _) begins = begins

@@ -1,24 +1,24 @@
 -- An evaluation that is begun and turned once.
 use Rattle.std.proofs.Common.{◌≡◌, ◌≤◌, ◌+◌, ◌∙◌, ◌++◌, ℕ, List, [], Option, None, Result, Ok, Err, refl, sym, ap, subst, arith}
-use Rattle.mk_base.specs.declared.metering.TheConstants.{UNITS}
+use Rattle.mk_base.specs.declared.budget.TheConstants.{UNITS}
 use Rattle.mk_base.specs.FaultAt.{FaultAt}
 use Rattle.mk_base.specs.Meter.{Meter, full}
 use Rattle.mk_base.specs.Outcome.{left}
 use Rattle.mk_paths.specs.FilesView.{FilesView, Question, noted, noted-twice}
 use Rattle.mk_paths.specs.World.{FileMap}
 use Rattle.mk_paths.specs.declared.search_path.Settings.{Settings}
-use Rattle.mk_paths.specs.declared.asking.FilesFault.{FilesFault}
-use Rattle.mk_files.specs.Asking.{beside}
-use Rattle.mk_files.specs.Looking.{LeavesAtStop-on, stop_of}
-use Rattle.mk_base.specs.declared.stopping.Stop.{Stop}
+use Rattle.mk_paths.specs.declared.files.FilesFault.{FilesFault}
+use Rattle.mk_files.specs.Questions.{beside}
+use Rattle.mk_files.specs.AfterQuestions.{LeavesAtStop-on, stop_of}
+use Rattle.mk_base.specs.declared.stops.Stop.{Stop}
 use Rattle.mk_eval.specs.Meaning.{evaluation, evaluated, means, questions_asked}
-use Rattle.mk_eval.specs.Sharing.{cost_of, questions_of}
+use Rattle.mk_eval.specs.Agreement.{cost_of, questions_of}
 use Rattle.mk_eval.specs.declared.state.EvalState.{EvalState}
 use Rattle.mk_eval.specs.declared.outcome.Evaluated.{Evaluated}
 use Rattle.mk_eval.specs.declared.outcome.Failed.{Failed}
 use Rattle.mk_eval.proofs.Shared.{Shared, with_questions}
 use Rattle.mk_eval.proofs.SharedEvaluation.{shared-evaluation}
-use Rattle.mk_step.specs.Turning.{AsksMore, IsUnderWay, TellsIfDone, Leaves, Spends, HasSpent}
+use Rattle.mk_step.specs.Turn.{AsksMore, IsUnderWay, TellsIfDone, Leaves, Spends, HasSpent}
 use Rattle.mk_step.specs.declared.machine.Machine.{Machine}
 use Rattle.mk_step.specs.declared.machine.Turned.{Turned}
 use Rattle.mk_step.specs.declared.machine.Turned.TheVariants.{More, Done}

@@ -4,26 +4,26 @@ use Rattle.std.proofs.lemmas.Bool.Decides.{nat_tests}
 use Rattle.std.specs.FinMap.{get}
 use Rattle.mk_base.specs.declared.faults.FaultKind.{FaultKind}
 use Rattle.mk_base.specs.declared.faults.FaultKind.TheVariants as kinds
-use Rattle.mk_base.specs.declared.metering.TheConstants.{QUESTIONS}
+use Rattle.mk_base.specs.declared.budget.TheConstants.{QUESTIONS}
 use Rattle.mk_base.specs.FaultAt.{FaultAt}
 use Rattle.mk_base.specs.Meter.{IsLater}
 use Rattle.mk_base.specs.Outcome.{Work, give, after, tell, ◌>>=◌}
 use Rattle.mk_text.specs.Lines.{LogicalLine}
-use Rattle.mk_ast.specs.declared.parsing.ParseFault.{ParseFault}
+use Rattle.mk_ast.specs.declared.parser.ParseFault.{ParseFault}
 use Rattle.mk_ast.specs.Trees.{Tree, LineTree, ChoiceTree, LoopTree, Block, EmptyBlock, MoreBlock, Branches, NoBranches, ElifBranch, ElseBranch}
-use Rattle.mk_ast.specs.Parsing.{parsed}
+use Rattle.mk_ast.specs.Parser.{parsed}
 use Rattle.mk_loop.specs.LoopWords.{LoopWords}
 use Rattle.mk_paths.specs.FileName.{resolved}
 use Rattle.mk_paths.specs.declared.file_name.NameFault.{NameFault}
 use Rattle.mk_paths.specs.World.{FileMap}
-use Rattle.mk_files.specs.Asking.{Account, beside, quietly, look_read}
+use Rattle.mk_files.specs.Questions.{Account, beside, quietly, look_read}
 use Rattle.mk_eval.specs.declared.state.EvalState.{EvalState}
 use Rattle.mk_eval.specs.Lines.{inside_turn}
 use Rattle.mk_eval.specs.Includes.{Place, File, Opened, found, open_named, open_if_there}
 use Rattle.mk_eval.specs.Modules.{asks_modules, module_words, module_file, names_in_trees, opened_or, open_first, open_module}
 use Rattle.mk_eval.specs.Meaning.{at, blamed, blamed_at, open_line}
-use Rattle.mk_step.specs.Machine.{Site, Frame, Lines, Later, Turns, Modules, Searches, Left, place_at, works_in, numbered, read_lines, file_lines, opened_lines, before, modules_at, do_tree, found_or, next_module, advance}
-use Rattle.mk_step.specs.Paying.{Costs, frame_weight, weight, may_follow}
+use Rattle.mk_step.specs.Machine.{Site, Frame, Lines, Later, Turns, Modules, Searches, StateAndFrames, place_at, works_in, numbered_line, read_lines, file_lines, opened_lines, before, modules_at, do_tree, found_or, next_module, advance}
+use Rattle.mk_step.specs.Costs.{Costs, frame_weight, weight, may_follow}
 use Rattle.mk_step.proofs.Spending.{Grows, Spends, grows-advance}
 
 -- questions were asked between two accounts, and if a file was found, at least one
@@ -114,7 +114,7 @@ weight-append : (first second : List Frame) → weight (first ++ second) ≡ wei
 weight-append [] second = omega arith
 weight-append (frame ∷ first) second = let rest = weight-append first second in omega (arith, rest)
 
-abbrev WeighsAtMost : {F : Type 0} → ℕ → Result (Left × Account) (F × Account) → Type 0
+abbrev WeighsAtMost : {F : Type 0} → ℕ → Result (StateAndFrames × Account) (F × Account) → Type 0
 WeighsAtMost most (Ok end) = weight end.0.1 ≤ most
 WeighsAtMost most (Err end) = Unit {0}
 
@@ -143,7 +143,7 @@ weighs-modules : (site : Site) (line : ℕ) (asked : Bool) → weight (modules_a
 weighs-modules site line true = omega arith
 weighs-modules site line false = omega arith
 
-weighs-less : {F : Type 0} (low high : ℕ) (r : Result (Left × Account) (F × Account)) → low ≤ high → WeighsAtMost low r → WeighsAtMost high r
+weighs-less : {F : Type 0} (low high : ℕ) (r : Result (StateAndFrames × Account) (F × Account)) → low ≤ high → WeighsAtMost low r → WeighsAtMost high r
 weighs-less low high (Ok end) within weighs = omega (arith, within, weighs)
 weighs-less low high (Err end) within weighs = tt
 
@@ -172,7 +172,7 @@ module _ (files : FileMap) (makefile : List ℕ) (site : Site) where
   weighs-tree (LoopTree line body) s a = loop-by line body s ((works_in files makefile site).turns site.loops line s a)
 
   module _ (frames : List Frame) where
-    block-by : (block : Block) (r : Result (Left × Account) (FaultAt × Account)) → WeighsAtMost 2 r → WeighsAtMost (2 + weight frames) (after r (λ done. give (done.0, done.1 ++ Lines site block ∷ frames)))
+    block-by : (block : Block) (r : Result (StateAndFrames × Account) (FaultAt × Account)) → WeighsAtMost 2 r → WeighsAtMost (2 + weight frames) (after r (λ done. give (done.0, done.1 ++ Lines site block ∷ frames)))
     block-by block (Ok (left, a)) weighs = let all = weight-append left.1 (Lines site block ∷ frames) in omega (arith, all, weighs)
     block-by block (Err end) weighs = tt
 
@@ -188,14 +188,14 @@ module _ (files : FileMap) (makefile : List ℕ) (site : Site) where
     turn-by site' line body turns s (Err end) = tt
 
 -- Something was spent, and little is to be done about modules; or something was asked, and no more is; or less is.
-abbrev Heads : Account → List Frame → Result (Left × Account) (FaultAt × Account) → Type 0
+abbrev Heads : Account → List Frame → Result (StateAndFrames × Account) (FaultAt × Account) → Type 0
 Heads a old (Ok (next, a')) =
     ((a.meter.spent < a'.meter.spent) × (weight next.1 ≤ 2 + weight old))
     ⊎ ((((a.meter.questions < QUESTIONS) × (a.meter.questions < a'.meter.questions)) × (weight next.1 ≤ weight old))
     ⊎ (weight next.1 < weight old))
 Heads a old (Err end) = Unit {0}
 
-of-spends : (a : Account) (old : List Frame) (work : Work Account FaultAt Left) → Grows work → (most : ℕ) → most ≤ 2 + weight old → (r : Result (Left × Account) (FaultAt × Account)) → work a ≡ r → WeighsAtMost most r → Heads a old r
+of-spends : (a : Account) (old : List Frame) (work : Work Account FaultAt StateAndFrames) → Grows work → (most : ℕ) → most ≤ 2 + weight old → (r : Result (StateAndFrames × Account) (FaultAt × Account)) → work a ≡ r → WeighsAtMost most r → Heads a old r
 of-spends a old work grows most low (Ok (next, a')) is weighs = inl (grows.grows a a' next is, omega (arith, low, weighs))
 of-spends a old work grows most low (Err end) is weighs = tt
 
@@ -248,20 +248,20 @@ module _ (files : FileMap) (makefile : List ℕ) (frames : List Frame) (s : Eval
   heads (Turns site line body []) costs = absurd costs
   heads (Turns site line body (turn ∷ turns)) costs =
       spending (Turns site line body (turn ∷ turns)) tt (2 + weight frames) (omega arith)
-      (turn-by files makefile site frames (record site { loops = inside_turn site.loops turn }) line body turns s ((works_in files makefile site).begins (numbered line) a))
+      (turn-by files makefile site frames (record site { loops = inside_turn site.loops turn }) line body turns s ((works_in files makefile site).begins (numbered_line line) a))
   heads (Modules site line) costs = words-by a site line frames s (blamed (place_at files makefile site) line (quietly (module_words s.variables)) a)
   heads (Searches site line []) costs = absurd costs
   heads (Searches site line (word ∷ words)) costs =
       found-by a site line word words frames (next_module (place_at files makefile site) line (word ∷ words) s a) (searches (place_at files makefile site) line (word ∷ words) s a)
 
-module _ (a a' : Account) (old : List Frame) (next : Left) (later : IsLater a.meter a'.meter) (fits : a'.meter.spent ≤ a.meter.limit) where
+module _ (a a' : Account) (old : List Frame) (next : StateAndFrames) (later : IsLater a.meter a'.meter) (fits : a'.meter.spent ≤ a.meter.limit) where
   lessens : Heads a old (Ok (next, a')) → may_follow a'.meter next.1 < may_follow a.meter old
   lessens (inl spends) = omega (arith, later.limit, later.questions, fits, spends.0, spends.1)
   lessens (inr (inl asks)) = omega (arith, later.limit, later.spent, fits, asks.0.0, asks.0.1, asks.1)
   lessens (inr (inr less)) = omega (arith, later.limit, later.spent, later.questions, fits, less)
 
 -- what may follow the next thing that a frame does is less than what might follow before it
-pub leaves-less : (files : FileMap) (makefile : List ℕ) (frame : Frame) (frames : List Frame) (s : EvalState) (a a' : Account) (next : Left) → Costs frame
+pub leaves-less : (files : FileMap) (makefile : List ℕ) (frame : Frame) (frames : List Frame) (s : EvalState) (a a' : Account) (next : StateAndFrames) → Costs frame
     → advance files makefile frame frames s a ≡ Ok (next, a') → IsLater a.meter a'.meter → a'.meter.spent ≤ a.meter.limit → may_follow a'.meter next.1 < may_follow a.meter (frame ∷ frames)
 leaves-less files makefile frame frames s a a' next costs is later fits =
     lessens a a' (frame ∷ frames) next later fits (subst (Heads a (frame ∷ frames)) is (heads files makefile frames s a frame costs))

@@ -1,19 +1,19 @@
 -- How a run of a machine comes from one point to another.
 use Rattle.std.proofs.Common.{◌≡◌, ◌≤◌, ◌<◌, ◌+◌, ◌∙◌, ◌++◌, ◌⊎◌, ℕ, true, false, List, [], ◌∷◌, Result, Ok, Err, refl, sym, ap, subst, arith, inl, inr}
-use Rattle.mk_base.specs.declared.stopping.Stop.{Stop}
-use Rattle.mk_base.specs.declared.stopping.Stop.TheVariants as stops
+use Rattle.mk_base.specs.declared.stops.Stop.{Stop}
+use Rattle.mk_base.specs.declared.stops.Stop.TheVariants as stops
 use Rattle.mk_base.specs.FaultAt.{FaultAt}
 use Rattle.mk_base.specs.Meter.{Meter, IsLater}
 use Rattle.mk_base.specs.Outcome.{left}
-use Rattle.mk_base.specs.Stopping.{StopsAt}
+use Rattle.mk_base.specs.Stops.{StopsAt}
 use Rattle.mk_paths.specs.FilesView.{FilesView, Question, noted, noted-twice, noted-nothing}
-use Rattle.mk_paths.specs.declared.asking.FilesFault.{FilesFault}
-use Rattle.mk_files.specs.Asking.{Account, account}
-use Rattle.mk_files.specs.Looking.{AfterQuestions, LeavesAtStop, LeavesAtStop-on}
-use Rattle.mk_step.specs.Machine.{Frame, Left, advance}
-use Rattle.mk_step.specs.Paying.{Costs, may_follow}
-use Rattle.mk_step.specs.Points.{Point, GoesOn, StopsWith, AreAlike}
-use Rattle.mk_step.specs.Turning.{AsksMore, IsLast, StopsInTime, RunsOn}
+use Rattle.mk_paths.specs.declared.files.FilesFault.{FilesFault}
+use Rattle.mk_files.specs.Questions.{Account, account}
+use Rattle.mk_files.specs.AfterQuestions.{AfterQuestions, LeavesAtStop, LeavesAtStop-on}
+use Rattle.mk_step.specs.Machine.{Frame, StateAndFrames, advance}
+use Rattle.mk_step.specs.Costs.{Costs, may_follow}
+use Rattle.mk_step.specs.Points.{Point, GoesOn, StopsWith, DoTheSame}
+use Rattle.mk_step.specs.Turn.{AsksMore, IsLastDone, StopsInTime, RunsOn}
 use Rattle.mk_step.proofs.Coming.{goes-nowhere, goes-free, goes-on, goes-step, stops-step, stops-on, notes, asked, spends}
 use Rattle.mk_step.proofs.SharedSteps.{shared-advance}
 use Rattle.mk_step.proofs.Heading.{leaves-less}
@@ -24,7 +24,7 @@ stop_at stop = stop
 -- where a run has come to that was given some units, from a start
 pub record Way (first : FilesView) (start : Point) (units : ℕ) (old : FilesView) (point : Point) : Type 0 where
   pub goes : AsksMore first old (GoesOn first.files start point)
-  pub last : (point.meter.spent ≡ start.meter.spent) ⊎ IsLast first.files units start point.meter.spent
+  pub last : (point.meter.spent ≡ start.meter.spent) ⊎ IsLastDone first.files units start point.meter.spent
 
 pub way-begins : (first : FilesView) (start : Point) (units : ℕ) → Way first start units first start
 way-begins first start units = record {
@@ -43,7 +43,7 @@ module _ (may : FilesFault → Type 0) (first : FilesView) (start : Point) (unit
   asked_so_far = record { questions = way.goes.more; in_log = way.goes.noted }
 
   -- nothing is to be done any more
-  pub way-ends : (others : List Frame) → AreAlike point.frames others → others ≡ [] → RunsOn may first old start (record point { frames = others }) units (Ok true)
+  pub way-ends : (others : List Frame) → DoTheSame point.frames others → others ≡ [] → RunsOn may first old start (record point { frames = others }) units (Ok true)
   way-ends others alike none = (
     (
       record {
@@ -60,7 +60,7 @@ module _ (may : FilesFault → Type 0) (first : FilesView) (start : Point) (unit
   pub way-stays : start.meter.spent + units ≤ point.meter.spent → RunsOn may first old start point units (Ok false)
   way-stays spent = ((way.goes, spent), in_time)
 
-  module _ (frame : Frame) (others : List Frame) (m' : Meter) (alike : AreAlike point.frames (frame ∷ others)) (later : IsLater point.meter m') where
+  module _ (frame : Frame) (others : List Frame) (m' : Meter) (alike : DoTheSame point.frames (frame ∷ others)) (later : IsLater point.meter m') where
     abbrev taken : Point
     taken = record point { frames = frame ∷ others }
 
@@ -74,8 +74,8 @@ module _ (may : FilesFault → Type 0) (first : FilesView) (start : Point) (unit
     noted_all is = is ∙ ap (λ view. noted view asks_next) way.goes.noted ∙ noted-twice first way.goes.more asks_next
 
     -- what was done last, if fewer than the units were spent before
-    last_at : (end : Result (Left × Account) (FaultAt × Account)) → point.meter.spent < start.meter.spent + units → advance old.files point.makefile frame others point.state (account point.meter old) ≡ end
-        → IsLast first.files units start (left end).meter.spent
+    last_at : (end : Result (StateAndFrames × Account) (FaultAt × Account)) → point.meter.spent < start.meter.spent + units → advance old.files point.makefile frame others point.state (account point.meter old) ≡ end
+        → IsLastDone first.files units start (left end).meter.spent
     last_at end low is = record {
       makefile = point.makefile;
       frame = frame;
@@ -85,10 +85,10 @@ module _ (may : FilesFault → Type 0) (first : FilesView) (start : Point) (unit
       asked = way.goes.more ++ [];
       comes = goes-on first.files start point taken way.goes.more [] way.goes.so to_taken;
       low = low;
-      leaves = ap (λ (end : Result (Left × Account) (FaultAt × Account)). (left end).meter.spent) (subst (λ files. advance files point.makefile frame others point.state (account point.meter old) ≡ end) same_files is);
+      leaves = ap (λ (end : Result (StateAndFrames × Account) (FaultAt × Account)). (left end).meter.spent) (subst (λ files. advance files point.makefile frame others point.state (account point.meter old) ≡ end) same_files is);
     }
 
-    module _ (next : Left) (asks : AfterQuestions old new) (is : advance old.files point.makefile frame others point.state (account point.meter old) ≡ Ok (next, account m' new)) where
+    module _ (next : StateAndFrames) (asks : AfterQuestions old new) (is : advance old.files point.makefile frame others point.state (account point.meter old) ≡ Ok (next, account m' new)) where
       abbrev come : Point
       come = record { makefile = point.makefile; frames = next.1; state = next.0; meter = m' }
 

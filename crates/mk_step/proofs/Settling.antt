@@ -10,21 +10,21 @@ use Rattle.mk_ast.specs.Views.{block_of, branch_of}
 use Rattle.mk_loop.specs.LoopWords.{LoopWords}
 use Rattle.mk_eval.specs.Execution.{execute, turn_of}
 use Rattle.mk_eval.specs.Meaning.{include_module}
-use Rattle.mk_step.specs.Machine.{Site, Frame, Lines, Later, Turns, Searches, place_at, works_in, entering_in, numbered, rest}
-use Rattle.mk_step.specs.Paying.{Costs}
-use Rattle.mk_step.specs.Points.{AreAlike}
+use Rattle.mk_step.specs.Machine.{Site, Frame, Lines, Later, Turns, Searches, place_at, works_in, entering_in, numbered_line, rest}
+use Rattle.mk_step.specs.Costs.{Costs}
+use Rattle.mk_step.specs.Points.{DoTheSame}
 use Rattle.mk_step.proofs.Advancing.{each-nil}
 
 pub costs-lines : (site : Site) (items items' : List Node) (next : ℕ) → items ≡ items' → ((site : Site) → next < length items → Costs (Lines site (block_of (drop next items)))) → next < length items'
     → Costs (Lines site (block_of (drop next items')))
 costs-lines site items items' next same costs within = subst (λ (items : List Node). next < length items → Costs (Lines site (block_of (drop next items)))) same (costs site) within
 
-pub alike-lines : (site : Site) (others : List Frame) (items items' : List Node) (from next : ℕ) → items ≡ items' → AreAlike (Lines site (block_of (drop from items)) ∷ others) (Lines site (block_of (drop next items)) ∷ others)
-    → AreAlike (Lines site (block_of (drop from items')) ∷ others) (Lines site (block_of (drop next items')) ∷ others)
-alike-lines site others items items' from next same alike = subst (λ (items : List Node). AreAlike (Lines site (block_of (drop from items)) ∷ others) (Lines site (block_of (drop next items)) ∷ others)) same alike
+pub alike-lines : (site : Site) (others : List Frame) (items items' : List Node) (from next : ℕ) → items ≡ items' → DoTheSame (Lines site (block_of (drop from items)) ∷ others) (Lines site (block_of (drop next items)) ∷ others)
+    → DoTheSame (Lines site (block_of (drop from items')) ∷ others) (Lines site (block_of (drop next items')) ∷ others)
+alike-lines site others items items' from next same alike = subst (λ (items : List Node). DoTheSame (Lines site (block_of (drop from items)) ∷ others) (Lines site (block_of (drop next items)) ∷ others)) same alike
 
-pub over-lines : (site : Site) (others : List Frame) (items items' : List Node) (from next : ℕ) → items ≡ items' → length items' ≤ next → AreAlike (Lines site (block_of (drop from items)) ∷ others) (Lines site (block_of (drop next items)) ∷ others)
-    → AreAlike (Lines site (block_of (drop from items')) ∷ others) others
+pub over-lines : (site : Site) (others : List Frame) (items items' : List Node) (from next : ℕ) → items ≡ items' → length items' ≤ next → DoTheSame (Lines site (block_of (drop from items)) ∷ others) (Lines site (block_of (drop next items)) ∷ others)
+    → DoTheSame (Lines site (block_of (drop from items')) ∷ others) others
 over-lines site others items items' from next same past alike files makefile s a =
     alike-lines site others items items' from next same alike files makefile s a
     ∙ ap (λ left. rest files makefile (Lines site (block_of left) ∷ others) s a) (drop_all next items' past)
@@ -43,10 +43,10 @@ costs-left site line body (turn ∷ left) some = tt
 pub costs-turns : (site : Site) (line : ℕ) (body : Block) (turns : List LoopWords) (next : ℕ) → next < length turns → Costs (Turns site line body (drop next turns))
 costs-turns site line body turns next within = costs-left site line body (drop next turns) (omega (arith, length-drop next turns, within))
 
-pub over-turns : (site : Site) (line : ℕ) (body : Block) (turns : List LoopWords) (next : ℕ) (others : List Frame) → length turns ≤ next → AreAlike (Turns site line body (drop next turns) ∷ others) others
+pub over-turns : (site : Site) (line : ℕ) (body : Block) (turns : List LoopWords) (next : ℕ) (others : List Frame) → length turns ≤ next → DoTheSame (Turns site line body (drop next turns) ∷ others) others
 over-turns site line body turns next others past files makefile s a =
     ap (λ left. rest files makefile (Turns site line body left ∷ others) s a) (drop_all next turns past)
-    ∙ ap (λ r. after r (rest files makefile others)) (each-nil (turn_of ((works_in files makefile site).begins (numbered line)) (execute (works_in files makefile site) body) site.loops) s a)
+    ∙ ap (λ r. after r (rest files makefile others)) (each-nil (turn_of ((works_in files makefile site).begins (numbered_line line)) (execute (works_in files makefile site) body) site.loops) s a)
 
 -- words that are left to be searched, and none
 costs-words : (site : Site) (line : ℕ) (left : List (String Global)) → 0 < length left → Costs (Searches site line (map string_bytes left))
@@ -56,7 +56,7 @@ costs-words site line (word ∷ left) some = tt
 pub costs-searches : (site : Site) (line : ℕ) (words : List (String Global)) (next : ℕ) → next < length words → Costs (Searches site line (map string_bytes (drop next words)))
 costs-searches site line words next within = costs-words site line (drop next words) (omega (arith, length-drop next words, within))
 
-pub over-searches : (site : Site) (line : ℕ) (words : List (String Global)) (next : ℕ) (others : List Frame) → length words ≤ next → AreAlike (Searches site line (map string_bytes (drop next words)) ∷ others) others
+pub over-searches : (site : Site) (line : ℕ) (words : List (String Global)) (next : ℕ) (others : List Frame) → length words ≤ next → DoTheSame (Searches site line (map string_bytes (drop next words)) ∷ others) others
 over-searches site line words next others past files makefile s a =
     ap (λ left. rest files makefile (Searches site line (map string_bytes left) ∷ others) s a) (drop_all next words past)
     ∙ ap (λ r. after r (rest files makefile others)) (each-nil (include_module (entering_in files makefile site) (place_at files makefile site) line) s a)

@@ -1,21 +1,21 @@
 -- What the machine does doesn't depend on a log, nor on a limit that it doesn't reach.
 use Rattle.std.proofs.Common.{ℕ, suc, zero, List, [], ◌∷◌, Some, None, Result, Ok, Err}
-use Rattle.mk_ast.specs.declared.parsing.ParseFault.{ParseFault}
+use Rattle.mk_ast.specs.declared.parser.ParseFault.{ParseFault}
 use Rattle.mk_ast.specs.Trees.{Tree, LineTree, ChoiceTree, LoopTree, Block, EmptyBlock, MoreBlock, NoBranches, ElifBranch, ElseBranch}
-use Rattle.mk_ast.specs.Parsing.{parsed}
+use Rattle.mk_ast.specs.Parser.{parsed}
 use Rattle.mk_base.specs.FaultAt.{FaultAt}
 use Rattle.mk_base.specs.Outcome.{Work}
 use Rattle.mk_paths.specs.World.{FileMap}
-use Rattle.mk_files.specs.Asking.{Account}
+use Rattle.mk_files.specs.Questions.{Account}
 use Rattle.mk_eval.specs.declared.state.EvalState.{EvalState}
 use Rattle.mk_eval.specs.Lines.{inside_turn}
 use Rattle.mk_eval.specs.Includes.{File, Opened}
 use Rattle.mk_eval.specs.Meaning.{at}
-use Rattle.mk_eval.specs.Running.{entering_at}
+use Rattle.mk_eval.specs.Steps.{entering_at}
 use Rattle.mk_eval.proofs.Shared.{Shared, shared-quietly, shared-give, shared-fail, shared-tell, bind, over}
 use Rattle.mk_eval.proofs.SharedEvaluation.{EntersShared, AreShared, shared-block, shared-branches, shared-open_line, works-shared, nothing-shared, file-shared}
 use Rattle.mk_eval.proofs.SharedEvaluation.{steady-module_words, shared-open_module, shared-include_module, shared-include_modules}
-use Rattle.mk_step.specs.Machine.{Site, Frame, Lines, Later, Turns, Modules, Searches, place_at, works_in, entering_in, numbered, found_or, next_module, to_do, rest, read_lines, file_lines, opened_lines, do_tree, advance}
+use Rattle.mk_step.specs.Machine.{Site, Frame, Lines, Later, Turns, Modules, Searches, place_at, works_in, entering_in, numbered_line, found_or, next_module, to_do, rest, read_lines, file_lines, opened_lines, do_tree, advance}
 
 module _ (files : FileMap) (makefile : List ℕ) where
   enters : (levels : ℕ) → EntersShared files (entering_at files makefile levels) (entering_at files makefile levels)
@@ -29,7 +29,7 @@ module _ (files : FileMap) (makefile : List ℕ) where
   shared-to_do (Lines site block) s = shared-block files (works_in files makefile site) (works_in files makefile site) (are site) block site.loops s
   shared-to_do (Later site branches) s = shared-branches files (works_in files makefile site) (works_in files makefile site) (are site) branches site.loops s
   shared-to_do (Turns site line body turns) s =
-      over (λ s turn. bind ((are site).begins (numbered line)) (λ _. shared-block files (works_in files makefile site) (works_in files makefile site) (are site) body (inside_turn site.loops turn) s)) s turns
+      over (λ s turn. bind ((are site).begins (numbered_line line)) (λ _. shared-block files (works_in files makefile site) (works_in files makefile site) (are site) body (inside_turn site.loops turn) s)) s turns
   shared-to_do (Modules site line) s =
       shared-include_modules files (entering_in files makefile site) (entering_in files makefile site) (enters site.levels) (place_at files makefile site) line s
   shared-to_do (Searches site line words) s =
@@ -76,7 +76,7 @@ module _ (files : FileMap) (makefile : List ℕ) where
   shared-advance (Later site (ElifBranch line block more)) frames s = bind ((are site).holds site.loops line s) (λ held. shared-give files _)
   shared-advance (Later site (ElseBranch block)) frames s = shared-give files _
   shared-advance (Turns site line body []) frames s = shared-give files _
-  shared-advance (Turns site line body (turn ∷ turns)) frames s = bind ((are site).begins (numbered line)) (λ _. shared-give files _)
+  shared-advance (Turns site line body (turn ∷ turns)) frames s = bind ((are site).begins (numbered_line line)) (λ _. shared-give files _)
   shared-advance (Modules site line) frames s = bind (shared-tell (at site.file line) (shared-quietly files (steady-module_words s.variables))) (λ words. shared-give files _)
   shared-advance (Searches site line words) frames s =
       bind (shared-next_module site line words s) (λ found. bind (shared-opened_lines site.levels found.0) (λ done. shared-give files _))

@@ -8,10 +8,10 @@ use Rattle.mk_ast.specs.Kinds.{TextLineKind, CommandLine, BlankLine, DirectiveLi
 use Rattle.mk_ast.specs.Trees.{Tree, LineTree, ChoiceTree, LoopTree, EmptyBlock, MoreBlock, NoBranches, ElifBranch, ElseBranch}
 use Rattle.mk_env.specs.Texts.{Variables}
 use Rattle.mk_paths.specs.World.{FileMap}
-use Rattle.mk_files.specs.Asking.{Account, beside, quietly}
+use Rattle.mk_files.specs.Questions.{Account, beside, quietly}
 use Rattle.mk_eval.specs.declared.state.EvalState.{EvalState}
 use Rattle.mk_eval.specs.Lines.{Loops, perform_kind}
-use Rattle.mk_eval.specs.Heads.{head_text, judge, turns, form_in}
+use Rattle.mk_eval.specs.Heads.{head_text, condition_holds, turns, form_in}
 use Rattle.mk_eval.specs.Includes.{Place}
 use Rattle.mk_eval.specs.Meaning.{at, open_line}
 use Rattle.mk_eval.proofs.Steady.{Steady}
@@ -20,7 +20,7 @@ use Rattle.mk_eval.proofs.Shared.{Shared, shared-give, bind}
 use Rattle.mk_eval.proofs.SharedConditions.{shared-parts}
 use Rattle.mk_eval.proofs.SharedEvaluation.{shared-open_request}
 use Rattle.mk_step.specs.Machine.{Site, Frame, Lines, Later, Turns, Modules, Searches, place_at, do_tree, advance}
-use Rattle.mk_step.specs.Paying.{TreeCosts}
+use Rattle.mk_step.specs.Costs.{TreeCosts}
 use Rattle.mk_step.proofs.Coming.{spends}
 use Rattle.mk_step.proofs.SharedSteps.{shared-opened_lines}
 
@@ -105,7 +105,7 @@ grows-head_text variables loops (AssignmentLine operator name rest) = grows-fail
 grows-head_text variables loops DependencyLine = grows-fail kinds.Block
 grows-head_text variables loops BadLine = grows-fail kinds.Block
 
-grows-judge : (files : FileMap) (makefile : List ℕ) (variables : Variables) (loops : Loops) (line : List ℕ) → Grows (judge files makefile variables loops line)
+grows-judge : (files : FileMap) (makefile : List ℕ) (variables : Variables) (loops : Loops) (line : List ℕ) → Grows (condition_holds files makefile variables loops line)
 grows-judge files makefile variables loops line =
     grows-bind files (quietly (head_text variables loops (line_kind line))) _ (grows-quietly _ (grows-head_text variables loops (line_kind line)))
     (λ text. shared-parts files files variables makefile (option_map (λ form. (form, text)) (form_in (line_kind line))))
@@ -117,7 +117,7 @@ module _ (files : FileMap) (makefile : List ℕ) (site : Site) where
   abbrev place : Place
   place = place_at files makefile site
 
-  grows-holds : (number : ℕ) (line : List ℕ) (s : EvalState) → Grows (λ a. tell (at site.file number) (judge files makefile s.variables site.loops line a))
+  grows-holds : (number : ℕ) (line : List ℕ) (s : EvalState) → Grows (λ a. tell (at site.file number) (condition_holds files makefile s.variables site.loops line a))
   grows-holds number line s = grows-tell (at site.file number) _ (grows-judge files makefile s.variables site.loops line)
 
   grows-tree : (tree : Tree) (s : EvalState) → TreeCosts tree → Grows (do_tree files makefile site tree s)

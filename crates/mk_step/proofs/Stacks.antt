@@ -3,8 +3,8 @@ use Rattle.std.proofs.Common.{◌≡◌, ◌∙◌, ◌≤◌, ℕ, List, [], �
 use Rattle.std.proofs.lemmas.List.{reverse-append, map-append}
 use Rattle.mk_step.specs.Machine as machine
 use Rattle.mk_step.specs.Machine.{rest, before}
-use Rattle.mk_step.specs.Paying.{weight}
-use Rattle.mk_step.specs.Points.{AreAlike}
+use Rattle.mk_step.specs.Costs.{weight}
+use Rattle.mk_step.specs.Points.{DoTheSame}
 use Rattle.mk_step.specs.Views.{frame_of, frames_of}
 use Rattle.mk_step.specs.declared.frames.Frame.{Frame}
 
@@ -13,8 +13,8 @@ pub pushed : (frames : List Frame) (frame : Frame) → frames_of (frames ++ fram
 pushed frames frame = ap reverse (map-append frame_of frames (frame ∷ [])) ∙ reverse-append (map frame_of frames) (frame_of frame ∷ [])
 
 -- the innermost frame without what costs nothing
-pub pops : (first : List machine.Frame) (old new : List Frame) (frame : Frame) (left : Option Frame) → old ≡ new ++ frame ∷ [] → AreAlike first (frames_of old)
-    → AreAlike (frame_of frame ∷ frames_of new) (before (option_map frame_of left) (frames_of new)) → AreAlike first (before (option_map frame_of left) (frames_of new))
+pub pops : (first : List machine.Frame) (old new : List Frame) (frame : Frame) (left : Option Frame) → old ≡ new ++ frame ∷ [] → DoTheSame first (frames_of old)
+    → DoTheSame (frame_of frame ∷ frames_of new) (before (option_map frame_of left) (frames_of new)) → DoTheSame first (before (option_map frame_of left) (frames_of new))
 pops first old new frame left is alike settled files makefile s a =
     alike files makefile s a ∙ ap (λ frames. rest files makefile frames s a) (ap frames_of is ∙ pushed new frame) ∙ settled files makefile s a
 

@@ -4,10 +4,10 @@ use Rattle.std.proofs.lemmas.List.{drop_more}
 use Rattle.mk_base.specs.FaultAt.{FaultAt}
 use Rattle.mk_base.specs.Meter.{Meter, pay}
 use Rattle.mk_base.specs.Outcome.{Work, give, after, tell, ◌>>=◌}
-use Rattle.mk_base.specs.Stopping.{StopsAt, StopsAt-whole, StopsPurelyAt, stop_of_pure}
-use Rattle.mk_base.specs.declared.stopping.PureStop.{PureStop}
-use Rattle.mk_base.specs.declared.stopping.PureStop.TheVariants as pure
-use Rattle.mk_base.specs.declared.stopping.Stop.{Stop}
+use Rattle.mk_base.specs.Stops.{StopsAt, StopsAt-whole, StopsPurelyAt, stop_of_pure}
+use Rattle.mk_base.specs.declared.stops.PureStop.{PureStop}
+use Rattle.mk_base.specs.declared.stops.PureStop.TheVariants as pure
+use Rattle.mk_base.specs.declared.stops.Stop.{Stop}
 use Rattle.mk_text.specs.Lines.{LogicalLine}
 use Rattle.std.proofs.Common.{Vec, Global}
 use Rattle.std.specs.declared.rc.Rc.{Rc}
@@ -15,37 +15,37 @@ use Rattle.mk_ast.specs.declared.nodes.Node.{Node, Node-F, fold-roll-Node}
 use Rattle.mk_ast.specs.declared.nodes.Node.TheVariants.{Choice, Loop, rolls-Choice, rolls-Loop}
 use Rattle.mk_ast.specs.declared.nodes.Branch.{Branch, out-Branch}
 use Rattle.mk_ast.specs.Trees.{Tree, ChoiceTree, LoopTree, Block}
-use Rattle.mk_ast.specs.Parsing.{parsed}
+use Rattle.mk_ast.specs.Parser.{parsed}
 use Rattle.mk_ast.specs.Blocks.{branches_from, last_branch}
 use Rattle.mk_ast.specs.Views.{tree_of, block_of, branch_of, node_step, branch_step}
 use Rattle.mk_paths.specs.World.{FileMap}
-use Rattle.mk_files.specs.Asking.{Account, beside}
+use Rattle.mk_files.specs.Questions.{Account, beside}
 use Rattle.mk_paths.specs.FilesView.{Question}
 use Rattle.mk_loop.specs.declared.turn.Iteration.{Iteration}
 use Rattle.mk_loop.specs.LoopWords.{LoopWords}
-use Rattle.mk_eval.specs.declared.including.ExecutedFile.{ExecutedFile}
+use Rattle.mk_eval.specs.declared.includes.ExecutedFile.{ExecutedFile}
 use Rattle.mk_eval.specs.declared.state.EvalState.{EvalState}
 use Rattle.mk_eval.specs.Lines.{inside_turn}
-use Rattle.mk_eval.specs.Heads.{judge, turns}
+use Rattle.mk_eval.specs.Heads.{condition_holds, turns}
 use Rattle.mk_eval.specs.Includes.{Place, File, Opened}
 use Rattle.mk_eval.specs.Meaning.{at, blamed_at, open_line}
 use Rattle.mk_eval.specs.Modules.{asks_modules, module_words}
-use Rattle.mk_eval.specs.Running.{works_of, Opens, MayOpen}
-use Rattle.mk_eval.specs.declared.including.Included.{Included}
-use Rattle.mk_eval.specs.Views.{loops_of, place_of, file_of}
+use Rattle.mk_eval.specs.Steps.{works_of, PaysToOpen, MayOpen}
+use Rattle.mk_eval.specs.declared.includes.Included.{Included}
+use Rattle.mk_eval.specs.Views.{loops_of, place_of_file, included_file}
 use Rattle.mk_eval.proofs.Stepping.{tree-branch}
-use Rattle.mk_step.specs.Machine.{Site, Frame, Lines, Later, Turns, Modules, Searches, Left, place_at, works_in, numbered, read_lines, file_lines, opened_lines, next_module, do_line, do_tree, before, modules_at, advance}
+use Rattle.mk_step.specs.Machine.{Site, Frame, Lines, Later, Turns, Modules, Searches, StateAndFrames, place_at, works_in, numbered_line, read_lines, file_lines, opened_lines, next_module, do_line, do_tree, before, modules_at, advance}
 use Rattle.mk_step.specs.Views.{later_from}
 
 -- what the code calls at a site is what the machine does there
-module _ (here : ExecutedFile) (files : FileMap) (makefile : List ℕ) (site : Site) (loops : List Iteration) (placed : place_of here files ≡ place_at files makefile site) (looped : loops_of loops ≡ site.loops) where
+module _ (here : ExecutedFile) (files : FileMap) (makefile : List ℕ) (site : Site) (loops : List Iteration) (placed : place_of_file here files ≡ place_at files makefile site) (looped : loops_of loops ≡ site.loops) where
   pub holds-there : (line : LogicalLine) (s : EvalState) (a : Account) → (works_of here files).holds (loops_of loops) line s a ≡ (works_in files makefile site).holds site.loops line s a
   holds-there line s a =
-      ap (λ (place : Place). blamed_at place line (judge place.files place.makefile s.variables (loops_of loops) line.text) a) placed
+      ap (λ (place : Place). blamed_at place line (condition_holds place.files place.makefile s.variables (loops_of loops) line.text) a) placed
       ∙ ap (λ loops. (works_in files makefile site).holds loops line s a) looped
 
   pub opens-there : (line : LogicalLine) (s : EvalState) (a : Account)
-      → blamed_at (place_of here files) line (open_line (place_of here files) (loops_of loops) line s) a ≡ blamed_at (place_at files makefile site) line (open_line (place_at files makefile site) site.loops line s) a
+      → blamed_at (place_of_file here files) line (open_line (place_of_file here files) (loops_of loops) line s) a ≡ blamed_at (place_at files makefile site) line (open_line (place_at files makefile site) site.loops line s) a
   opens-there line s a =
       ap (λ (place : Place). blamed_at place line (open_line place (loops_of loops) line s) a) placed
       ∙ ap (λ loops. blamed_at (place_at files makefile site) line (open_line (place_at files makefile site) loops line s) a) looped
@@ -63,15 +63,15 @@ module _ (files : FileMap) (makefile : List ℕ) (site : Site) (frames : List Fr
   -- the iterations from a place on
   pub turns-first : (line : ℕ) (body : Block) (turns : List LoopWords) (next : ℕ) → next < length turns
       → advance files makefile (Turns site line body (drop next turns)) frames s a
-      ≡ after ((works_in files makefile site).begins (numbered line) a)
+      ≡ after ((works_in files makefile site).begins (numbered_line line) a)
       (λ _. give (s, Lines (record site { loops = inside_turn site.loops (get_or turns next []) }) body ∷ Turns site line body (drop (next + 1) turns) ∷ frames))
   turns-first line body turns next within =
       ap (λ left. advance files makefile (Turns site line body left) frames s a) (drop_more turns next [] within)
 
 -- a condition judged, among the branches from a place on
-module _ (here : ExecutedFile) (files : FileMap) (makefile : List ℕ) (site : Site) (loops : List Iteration) (placed : place_of here files ≡ place_at files makefile site) (looped : loops_of loops ≡ site.loops)
+module _ (here : ExecutedFile) (files : FileMap) (makefile : List ℕ) (site : Site) (loops : List Iteration) (placed : place_of_file here files ≡ place_at files makefile site) (looped : loops_of loops ≡ site.loops)
     (frames : List Frame) (s : EvalState) (a : Account) (slice items : List Branch) (next : ℕ) (item : Branch) (otherwise : Option (List Node)) (same : slice ≡ items) (within : next < length items) (is : item ≡ get_or slice next item) where
-  abbrev left_by : Bool → Work Account FaultAt Left
+  abbrev left_by : Bool → Work Account FaultAt StateAndFrames
   left_by held = give (s, (if held then Lines site (block_of (out-Branch item).body.value.items) else Later site (later_from items (next + 1) otherwise)) ∷ frames)
 
   judged : advance files makefile (Later site (later_from items next otherwise)) frames s a ≡ after ((works_of here files).holds (loops_of loops) (out-Branch item).head s a) left_by
@@ -86,7 +86,7 @@ module _ (here : ExecutedFile) (files : FileMap) (makefile : List ℕ) (site : S
       → (if held then Lines site (block_of (out-Branch item).body.value.items) else Later site (later_from items (next + 1) otherwise)) ∷ frames ≡ frames'
       → advance files makefile (Later site (later_from items next otherwise)) frames s a ≡ Ok ((s, frames'), end)
   later-goes held end frames' holds left =
-      judged ∙ ap (λ r. after r left_by) holds ∙ ap (λ frames. let outcome : Result (Left × Account) (FaultAt × Account) = Ok ((s, frames), end) in outcome) left
+      judged ∙ ap (λ r. after r left_by) holds ∙ ap (λ frames. let outcome : Result (StateAndFrames × Account) (FaultAt × Account) = Ok ((s, frames), end) in outcome) left
 
 told-found : {A F G : Type 0} (f : F → G) (log : Option (List Question)) (r : Result (A × Meter) (F × Meter)) (x : A) (m : Meter) → tell f r ≡ Ok (x, m) → tell f (beside log r) ≡ Ok (x, record { meter = m; log = log })
 told-found f log (Ok end) x m is = ap (beside log) is
@@ -97,9 +97,9 @@ told-stops f log (Ok end) fault m is = cc
 told-stops f log (Err end) fault m is = ap (beside log) is
 
 -- an iteration begun, among those from a place on
-module _ (here : ExecutedFile) (files : FileMap) (makefile : List ℕ) (site : Site) (placed : place_of here files ≡ place_at files makefile site)
+module _ (here : ExecutedFile) (files : FileMap) (makefile : List ℕ) (site : Site) (placed : place_of_file here files ≡ place_at files makefile site)
     (frames : List Frame) (s : EvalState) (m : Meter) (log : Option (List Question)) (line : ℕ) (body : Block) (turns : List LoopWords) (next : ℕ) (within : next < length turns) where
-  abbrev left_begun : Unit {0} → Work Account FaultAt Left
+  abbrev left_begun : Unit {0} → Work Account FaultAt StateAndFrames
   left_begun done = give (s, Lines (record site { loops = inside_turn site.loops (get_or turns next []) }) body ∷ Turns site line body (drop (next + 1) turns) ∷ frames)
 
   begun : advance files makefile (Turns site line body (drop next turns)) frames s (record { meter = m; log = log }) ≡ after (tell (at here.file.now line) (beside log (pay m))) left_begun
@@ -117,12 +117,12 @@ module _ (here : ExecutedFile) (files : FileMap) (makefile : List ℕ) (site : S
       → advance files makefile (Turns site line body (drop next turns)) frames s (record { meter = m; log = log }) ≡ Ok ((s, frames'), record { meter = end; log = log })
   turns-go end frames' gives left =
       begun ∙ ap (λ r. after r left_begun) (told-found (at here.file.now line) log (pay m) tt end gives)
-      ∙ ap (λ frames. let outcome : Result (Left × Account) (FaultAt × Account) = Ok ((s, frames), record { meter = end; log = log }) in outcome) left
+      ∙ ap (λ frames. let outcome : Result (StateAndFrames × Account) (FaultAt × Account) = Ok ((s, frames), record { meter = end; log = log }) in outcome) left
 
 -- MODULES expanded
-module _ (here : ExecutedFile) (files : FileMap) (makefile : List ℕ) (site : Site) (placed : place_of here files ≡ place_at files makefile site)
+module _ (here : ExecutedFile) (files : FileMap) (makefile : List ℕ) (site : Site) (placed : place_of_file here files ≡ place_at files makefile site)
     (frames : List Frame) (s : EvalState) (m : Meter) (log : Option (List Question)) (line : ℕ) where
-  abbrev left_expanded : List (List ℕ) → Work Account FaultAt Left
+  abbrev left_expanded : List (List ℕ) → Work Account FaultAt StateAndFrames
   left_expanded words = give (s, Searches site line words ∷ frames)
 
   expanded : advance files makefile (Modules site line) frames s (record { meter = m; log = log }) ≡ after (tell (at here.file.now line) (beside log (module_words s.variables m))) left_expanded
@@ -143,12 +143,12 @@ enters-file zero file s a some = absurd (some refl)
 enters-file (suc levels) file s a some = let same : levels ≡ suc levels - 1 = omega arith in ap (λ n. read_lines file.0 n (parsed file.1) s a) same
 
 -- a line that frames no block
-module _ (here : ExecutedFile) (files : FileMap) (makefile : List ℕ) (site : Site) (loops : List Iteration) (placed : place_of here files ≡ place_at files makefile site) (looped : loops_of loops ≡ site.loops)
+module _ (here : ExecutedFile) (files : FileMap) (makefile : List ℕ) (site : Site) (loops : List Iteration) (placed : place_of_file here files ≡ place_at files makefile site) (looped : loops_of loops ≡ site.loops)
     (line : LogicalLine) (s : EvalState) (a : Account) where
   abbrev opening : Result (Opened × Account) (FaultAt × Account)
-  opening = blamed_at (place_of here files) line (open_line (place_of here files) (loops_of loops) line s) a
+  opening = blamed_at (place_of_file here files) line (open_line (place_of_file here files) (loops_of loops) line s) a
 
-  abbrev left_of_line : Opened → Work Account FaultAt Left
+  abbrev left_of_line : Opened → Work Account FaultAt StateAndFrames
   left_of_line opened = opened_lines site.levels opened >>= λ done. give (done.0, before done.1 (modules_at site line.line (asks_modules s opened.0)))
 
   opened : do_line files makefile site line s a ≡ after opening left_of_line
@@ -161,10 +161,10 @@ module _ (here : ExecutedFile) (files : FileMap) (makefile : List ℕ) (site : S
       → do_line files makefile site line s a ≡ Ok ((s', modules), end)
   line-alone s' end modules gives are =
       opened ∙ ap (λ r. after r left_of_line) gives
-      ∙ ap (λ modules. let outcome : Result (Left × Account) (FaultAt × Account) = Ok ((s', modules), end) in outcome) (sym are)
+      ∙ ap (λ modules. let outcome : Result (StateAndFrames × Account) (FaultAt × Account) = Ok ((s', modules), end) in outcome) (sym are)
 
   -- what is left of a file that was opened
-  abbrev left_of_file : EvalState → (EvalState × Option Frame) → Work Account FaultAt Left
+  abbrev left_of_file : EvalState → (EvalState × Option Frame) → Work Account FaultAt StateAndFrames
   left_of_file s' done = give (done.0, before done.1 (modules_at site line.line (asks_modules s s')))
 
   pub line-enters : (s' : EvalState) (file : File) (end : Account) → opening ≡ Ok ((s', Some file), end) → (site.levels ≡ 0 → ⊥)
@@ -177,18 +177,18 @@ module _ (here : ExecutedFile) (files : FileMap) (makefile : List ℕ) (site : S
       → do_line files makefile site line s a ≡ Ok ((s', frames), end)
   line-reads s' file end frame frames gives some reads are =
       line-enters s' file end gives some ∙ ap (λ r. after r (left_of_file s')) reads
-      ∙ ap (λ frames. let outcome : Result (Left × Account) (FaultAt × Account) = Ok ((s', frames), end) in outcome) (sym are)
+      ∙ ap (λ frames. let outcome : Result (StateAndFrames × Account) (FaultAt × Account) = Ok ((s', frames), end) in outcome) (sym are)
 
   pub line-unread : (s' : EvalState) (file : File) (end : Account) (stop : PureStop FaultAt) → opening ≡ Ok ((s', Some file), end) → (site.levels ≡ 0 → ⊥)
       → StopsPurelyAt stop end (read_lines file.0 (site.levels - 1) (parsed file.1) s' end) → StopsAt (stop_of_pure stop) end (do_line files makefile site line s a)
   line-unread s' file end (pure.Fault fault) gives some stops = line-enters s' file end gives some ∙ ap (λ r. after r (left_of_file s')) stops
   line-unread s' file end (pure.Memory _) gives some stops = tt
 
-pub may-open : (levels levels' : ℕ) (old new : Meter) (found : Option Included) (included : Included) → levels ≡ levels' → found ≡ Some included → Opens levels old new found → levels' ≡ 0 → ⊥
-may-open levels levels' old new found included same is opens none = let may = subst (Opens levels old new) is opens in may.0 (same ∙ none)
+pub may-open : (levels levels' : ℕ) (old new : Meter) (found : Option Included) (included : Included) → levels ≡ levels' → found ≡ Some included → PaysToOpen levels old new found → levels' ≡ 0 → ⊥
+may-open levels levels' old new found included same is opens none = let may = subst (PaysToOpen levels old new) is opens in may.0 (same ∙ none)
 
-pub found-some : (r : Result (Opened × Account) (FaultAt × Account)) (s : EvalState) (found : Option Included) (end : Account) (one : Option Included) → found ≡ one → r ≡ Ok ((s, option_map file_of found), end) → r ≡ Ok ((s, option_map file_of one), end)
-found-some r s found end one is gives = gives ∙ ap (λ found. let outcome : Result (Opened × Account) (FaultAt × Account) = Ok ((s, option_map file_of found), end) in outcome) is
+pub found-some : (r : Result (Opened × Account) (FaultAt × Account)) (s : EvalState) (found : Option Included) (end : Account) (one : Option Included) → found ≡ one → r ≡ Ok ((s, option_map included_file found), end) → r ≡ Ok ((s, option_map included_file one), end)
+found-some r s found end one is gives = gives ∙ ap (λ found. let outcome : Result (Opened × Account) (FaultAt × Account) = Ok ((s, option_map included_file found), end) in outcome) is
 
 -- the tree of a choice
 choice-tree : (head : LogicalLine) (body : Rc (Vec Node Global) Global) (branches : Rc (Vec Branch Global) Global) (otherwise : Option (Rc (Vec Node Global) Global)) → tree_of (Choice head body branches otherwise) ≡ ChoiceTree head (block_of body.value.items) (later_from branches.value.items 0 (option_map (λ block. block.value.items) otherwise))
@@ -199,12 +199,12 @@ loop-tree : (head : LogicalLine) (body : Rc (Vec Node Global) Global) → tree_o
 loop-tree head body = ap tree_of (sym (rolls-Loop head body)) ∙ fold-roll-Node Tree (LogicalLine × Block) node_step branch_step (Node-F.Loop head body)
 
 -- a choice
-module _ (here : ExecutedFile) (files : FileMap) (makefile : List ℕ) (site : Site) (loops : List Iteration) (placed : place_of here files ≡ place_at files makefile site) (looped : loops_of loops ≡ site.loops)
+module _ (here : ExecutedFile) (files : FileMap) (makefile : List ℕ) (site : Site) (loops : List Iteration) (placed : place_of_file here files ≡ place_at files makefile site) (looped : loops_of loops ≡ site.loops)
     (node : Node) (head : LogicalLine) (body : Rc (Vec Node Global) Global) (branches : Rc (Vec Branch Global) Global) (otherwise : Option (Rc (Vec Node Global) Global)) (is : node ≡ Choice head body branches otherwise) (s : EvalState) (a : Account) where
   abbrev first : Bool → Frame
   first held = if held then Lines site (block_of body.value.items) else Later site (later_from branches.value.items 0 (option_map (λ block. block.value.items) otherwise))
 
-  abbrev left_chosen : Bool → Work Account FaultAt Left
+  abbrev left_chosen : Bool → Work Account FaultAt StateAndFrames
   left_chosen held = give (s, first held ∷ [])
 
   chooses : do_tree files makefile site (tree_of node) s a ≡ after ((works_of here files).holds (loops_of loops) head s a) left_chosen
@@ -218,15 +218,15 @@ module _ (here : ExecutedFile) (files : FileMap) (makefile : List ℕ) (site : S
   pub choice-goes : (held : Bool) (end : Account) (frames : List Frame) → (works_of here files).holds (loops_of loops) head s a ≡ Ok (held, end) → first held ∷ [] ≡ frames
       → do_tree files makefile site (tree_of node) s a ≡ Ok ((s, frames), end)
   choice-goes held end frames holds left =
-      chooses ∙ ap (λ r. after r left_chosen) holds ∙ ap (λ frames. let outcome : Result (Left × Account) (FaultAt × Account) = Ok ((s, frames), end) in outcome) left
+      chooses ∙ ap (λ r. after r left_chosen) holds ∙ ap (λ frames. let outcome : Result (StateAndFrames × Account) (FaultAt × Account) = Ok ((s, frames), end) in outcome) left
 
 -- a loop
-module _ (here : ExecutedFile) (files : FileMap) (makefile : List ℕ) (site : Site) (loops : List Iteration) (placed : place_of here files ≡ place_at files makefile site) (looped : loops_of loops ≡ site.loops)
+module _ (here : ExecutedFile) (files : FileMap) (makefile : List ℕ) (site : Site) (loops : List Iteration) (placed : place_of_file here files ≡ place_at files makefile site) (looped : loops_of loops ≡ site.loops)
     (node : Node) (head : LogicalLine) (body : Rc (Vec Node Global) Global) (is : node ≡ Loop head body) (s : EvalState) (m : Meter) (log : Option (List Question)) where
   abbrev reading : Result (List LoopWords × Meter) (FaultAt × Meter)
   reading = tell (at here.file.now head.line) (turns s.variables (loops_of loops) head.text m)
 
-  abbrev left_read : List LoopWords → Work Account FaultAt Left
+  abbrev left_read : List LoopWords → Work Account FaultAt StateAndFrames
   left_read turns = give (s, Turns site head.line (block_of body.value.items) turns ∷ [])
 
   reads : do_tree files makefile site (tree_of node) s (record { meter = m; log = log }) ≡ after (tell (at here.file.now head.line) (beside log (turns s.variables (loops_of loops) head.text m))) left_read
@@ -243,12 +243,12 @@ pub may-search : (levels levels' : ℕ) (found : Option Included) (included : In
 may-search levels levels' found included same is opens none = let may = subst (MayOpen levels) is opens in may (same ∙ none)
 
 -- the next module searched for
-module _ (here : ExecutedFile) (files : FileMap) (makefile : List ℕ) (site : Site) (placed : place_of here files ≡ place_at files makefile site)
+module _ (here : ExecutedFile) (files : FileMap) (makefile : List ℕ) (site : Site) (placed : place_of_file here files ≡ place_at files makefile site)
     (frames : List Frame) (s : EvalState) (a : Account) (line : ℕ) (words : List (List ℕ)) where
   abbrev searching : Result ((Opened × List (List ℕ)) × Account) (FaultAt × Account)
-  searching = next_module (place_of here files) line words s a
+  searching = next_module (place_of_file here files) line words s a
 
-  abbrev left_found : Opened × List (List ℕ) → Work Account FaultAt Left
+  abbrev left_found : Opened × List (List ℕ) → Work Account FaultAt StateAndFrames
   left_found found = opened_lines site.levels found.0 >>= λ done. give (done.0, before done.1 (Searches site line found.1 ∷ frames))
 
   searched : advance files makefile (Searches site line words) frames s a ≡ after searching left_found
@@ -257,17 +257,17 @@ module _ (here : ExecutedFile) (files : FileMap) (makefile : List ℕ) (site : S
   pub search-stops : (stop : Stop FaultAt) (end : Account) → StopsAt stop end searching → StopsAt stop end (advance files makefile (Searches site line words) frames s a)
   search-stops stop end stops = StopsAt-whole stop end _ _ (λ fault at. searched ∙ ap (λ r. after r left_found) at) stops
 
-  module _ (rest : List (List ℕ)) (end : Account) (found : Option Included) (gives : searching ≡ Ok (((s, option_map file_of found), rest), end)) where
-    found-is : (one : Option Included) → found ≡ one → searching ≡ Ok (((s, option_map file_of one), rest), end)
-    found-is one is = gives ∙ ap (λ found. let outcome : Result ((Opened × List (List ℕ)) × Account) (FaultAt × Account) = Ok (((s, option_map file_of found), rest), end) in outcome) is
+  module _ (rest : List (List ℕ)) (end : Account) (found : Option Included) (gives : searching ≡ Ok (((s, option_map included_file found), rest), end)) where
+    found-is : (one : Option Included) → found ≡ one → searching ≡ Ok (((s, option_map included_file one), rest), end)
+    found-is one is = gives ∙ ap (λ found. let outcome : Result ((Opened × List (List ℕ)) × Account) (FaultAt × Account) = Ok (((s, option_map included_file found), rest), end) in outcome) is
 
     -- there is none
     pub search-ends : (frames' : List Frame) → found ≡ None → Searches site line rest ∷ frames ≡ frames' → advance files makefile (Searches site line words) frames s a ≡ Ok ((s, frames'), end)
     search-ends frames' none left =
         searched ∙ ap (λ r. after r left_found) (found-is None none)
-        ∙ ap (λ frames. let outcome : Result (Left × Account) (FaultAt × Account) = Ok ((s, frames), end) in outcome) left
+        ∙ ap (λ frames. let outcome : Result (StateAndFrames × Account) (FaultAt × Account) = Ok ((s, frames), end) in outcome) left
 
-    abbrev left_entered : (EvalState × Option Frame) → Work Account FaultAt Left
+    abbrev left_entered : (EvalState × Option Frame) → Work Account FaultAt StateAndFrames
     left_entered done = give (done.0, before done.1 (Searches site line rest ∷ frames))
 
     -- it is there
@@ -275,13 +275,13 @@ module _ (here : ExecutedFile) (files : FileMap) (makefile : List ℕ) (site : S
       enters : advance files makefile (Searches site line words) frames s a ≡ after (read_lines included.name (site.levels - 1) (parsed included.content) s end) left_entered
       enters =
           searched ∙ ap (λ r. after r left_found) (found-is (Some included) is)
-          ∙ ap (λ r. after r left_entered) (enters-file site.levels (file_of included) s end some)
+          ∙ ap (λ r. after r left_entered) (enters-file site.levels (included_file included) s end some)
 
       pub search-reads : (frame : Frame) (frames' : List Frame) → read_lines included.name (site.levels - 1) (parsed included.content) s end ≡ Ok ((s, Some frame), end) → frame ∷ Searches site line rest ∷ frames ≡ frames'
           → advance files makefile (Searches site line words) frames s a ≡ Ok ((s, frames'), end)
       search-reads frame frames' reads left =
           enters ∙ ap (λ r. after r left_entered) reads
-          ∙ ap (λ frames. let outcome : Result (Left × Account) (FaultAt × Account) = Ok ((s, frames), end) in outcome) left
+          ∙ ap (λ frames. let outcome : Result (StateAndFrames × Account) (FaultAt × Account) = Ok ((s, frames), end) in outcome) left
 
       pub search-unread : (stop : PureStop FaultAt) → StopsPurelyAt stop end (read_lines included.name (site.levels - 1) (parsed included.content) s end)
           → StopsAt (stop_of_pure stop) end (advance files makefile (Searches site line words) frames s a)

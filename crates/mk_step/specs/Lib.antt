@@ -1,6 +1,6 @@
 pub mod Machine
 pub mod Points
-pub mod Paying
+pub mod Costs
 pub mod Views
-pub mod Turning
+pub mod Turn
 pub mod Steps

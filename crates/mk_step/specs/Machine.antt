@@ -4,19 +4,19 @@ use Rattle.std.specs.Prelude.{ℕ, suc, zero, Bool, false, if◌then◌else◌, 
 use Rattle.mk_base.specs.FaultAt.{FaultAt, fault_at}
 use Rattle.mk_base.specs.Outcome.{Work, give, fail, each, ◌>>=◌}
 use Rattle.mk_text.specs.Lines.{LogicalLine}
-use Rattle.mk_ast.specs.declared.parsing.ParseFault.{ParseFault}
+use Rattle.mk_ast.specs.declared.parser.ParseFault.{ParseFault}
 use Rattle.mk_ast.specs.Trees.{Tree, LineTree, ChoiceTree, LoopTree, Block, EmptyBlock, MoreBlock, Branches}
 use Rattle.mk_ast.specs.Trees.{NoBranches, ElifBranch, ElseBranch}
-use Rattle.mk_ast.specs.Parsing.{parsed}
+use Rattle.mk_ast.specs.Parser.{parsed}
 use Rattle.mk_paths.specs.World.{FileMap}
-use Rattle.mk_files.specs.Asking.{Account, quietly}
+use Rattle.mk_files.specs.Questions.{Account, quietly}
 use Rattle.mk_loop.specs.LoopWords.{LoopWords}
 use Rattle.mk_eval.specs.Lines.{Loops, inside_turn}
 use Rattle.mk_eval.specs.Includes.{Place, File, Opened}
 use Rattle.mk_eval.specs.Execution.{LineWorks, execute, execute_branches, turn_of}
 use Rattle.mk_eval.specs.Meaning.{Entering, works_at, blamed, blamed_at, open_line, include_module, include_modules}
 use Rattle.mk_eval.specs.Modules.{asks_modules, module_words, open_module}
-use Rattle.mk_eval.specs.Running.{entering_at}
+use Rattle.mk_eval.specs.Steps.{entering_at}
 use Rattle.mk_eval.specs.declared.state.EvalState.{EvalState}
 
 -- where lines are: in which file, how many levels deep files may still include one another, and in which loops
@@ -36,8 +36,8 @@ pub data Frame : Type 0 where
   Searches : Site → ℕ → List (List ℕ) → Frame
 
 -- what work leaves that does one thing: the state, and what is still to be done, the innermost first
-abbrev pub Left : Type 0
-Left = EvalState × List Frame
+abbrev pub StateAndFrames : Type 0
+StateAndFrames = EvalState × List Frame
 
 -- a site as a place, among these files, in the evaluation of this makefile
 abbrev pub place_at : FileMap → List ℕ → Site → Place
@@ -57,15 +57,15 @@ abbrev pub entering_in : FileMap → List ℕ → Site → Entering
 entering_in files makefile site = entering_at files makefile site.levels
 
 -- a line of which only the number matters
-abbrev pub numbered : ℕ → LogicalLine
-numbered number = record { text = []; line = number; command = false }
+abbrev pub numbered_line : ℕ → LogicalLine
+numbered_line number = record { text = []; line = number; command = false }
 
 -- what a frame has still to do, by the definitions of execution
 abbrev pub to_do : FileMap → List ℕ → Frame → EvalState → Work Account FaultAt EvalState
 to_do files makefile (Lines site block) s = execute (works_in files makefile site) block site.loops s
 to_do files makefile (Later site branches) s = execute_branches (works_in files makefile site) branches site.loops s
 to_do files makefile (Turns site line body turns) s =
-    let works = works_in files makefile site in each (turn_of (works.begins (numbered line)) (execute works body) site.loops) s turns
+    let works = works_in files makefile site in each (turn_of (works.begins (numbered_line line)) (execute works body) site.loops) s turns
 to_do files makefile (Modules site line) s = include_modules (entering_in files makefile site) (place_at files makefile site) line s
 to_do files makefile (Searches site line words) s =
     each (include_module (entering_in files makefile site) (place_at files makefile site) line) s words
@@ -101,14 +101,14 @@ modules_at site line asked = if asked then Modules site line ∷ [] else []
 
 -- a line that frames no block: what it leaves, and the file and the modules that are to be done before the lines that
 -- follow
-abbrev pub do_line : FileMap → List ℕ → Site → LogicalLine → EvalState → Work Account FaultAt Left
+abbrev pub do_line : FileMap → List ℕ → Site → LogicalLine → EvalState → Work Account FaultAt StateAndFrames
 do_line files makefile site line s =
     blamed_at (place_at files makefile site) line (open_line (place_at files makefile site) site.loops line s)
     >>= λ opened. opened_lines site.levels opened
     >>= λ done. give (done.0, before done.1 (modules_at site line.line (asks_modules s opened.0)))
 
 -- a line, or the first line of a block: what it leaves, and what is to be done before the lines that follow
-abbrev pub do_tree : FileMap → List ℕ → Site → Tree → EvalState → Work Account FaultAt Left
+abbrev pub do_tree : FileMap → List ℕ → Site → Tree → EvalState → Work Account FaultAt StateAndFrames
 do_tree files makefile site (LineTree line) s = do_line files makefile site line s
 do_tree files makefile site (ChoiceTree line first later) s =
     (works_in files makefile site).holds site.loops line s
@@ -131,7 +131,7 @@ next_module place line (word ∷ words) s =
 -- The next thing that a frame does, and what is still to be done then, before these other frames. It is a line, a
 -- condition, the header of a loop, the start of an iteration, the words of MODULES, or a search for the next module.
 -- The end of a block, of a choice or of a loop only takes the frame away.
-abbrev pub advance : FileMap → List ℕ → Frame → List Frame → EvalState → Work Account FaultAt Left
+abbrev pub advance : FileMap → List ℕ → Frame → List Frame → EvalState → Work Account FaultAt StateAndFrames
 advance files makefile (Lines site EmptyBlock) frames s = give (s, frames)
 advance files makefile (Lines site (MoreBlock tree block)) frames s =
     do_tree files makefile site tree s >>= λ done. give (done.0, done.1 ++ Lines site block ∷ frames)
@@ -142,7 +142,7 @@ advance files makefile (Later site (ElifBranch line block more)) frames s =
 advance files makefile (Later site (ElseBranch block)) frames s = give (s, Lines site block ∷ frames)
 advance files makefile (Turns site line body []) frames s = give (s, frames)
 advance files makefile (Turns site line body (turn ∷ turns)) frames s =
-    (works_in files makefile site).begins (numbered line)
+    (works_in files makefile site).begins (numbered_line line)
     >>= λ _. give (s, Lines (record site { loops = inside_turn site.loops turn }) body ∷ Turns site line body turns ∷ frames)
 advance files makefile (Modules site line) frames s =
     blamed (place_at files makefile site) line (quietly (module_words s.variables))

@@ -3,30 +3,30 @@ use Rattle.std.specs.Prelude.{◌≡◌, ◌≤◌, ◌<◌, ℕ, Bool, if◌the
 use Rattle.std.specs.Prelude.{Result, IfOk, OnOk, length, drop, slice_get}
 use Rattle.std.specs.Global.{Global}
 use Rattle.std.specs.declared.rc.Rc.{Rc}
-use Rattle.mk_base.specs.declared.stopping.PureStop.{PureStop}
-use Rattle.mk_base.specs.declared.stopping.Stop.{Stop}
+use Rattle.mk_base.specs.declared.stops.PureStop.{PureStop}
+use Rattle.mk_base.specs.declared.stops.Stop.{Stop}
 use Rattle.mk_base.specs.FaultAt.{FaultAt}
 use Rattle.mk_base.specs.Meter.{Meter}
-use Rattle.mk_base.specs.Stopping.{Gives, GivesPurely}
+use Rattle.mk_base.specs.Stops.{Gives, GivesPurely}
 use Rattle.mk_text.specs.Lines.{LogicalLine}
 use Rattle.mk_ast.specs.declared.nodes.Branch.{Branch}
 use Rattle.mk_ast.specs.declared.nodes.Node.{Node}
-use Rattle.mk_ast.specs.Parsing.{parsed}
+use Rattle.mk_ast.specs.Parser.{parsed}
 use Rattle.mk_ast.specs.Views.{block_of, tree_of}
 use Rattle.mk_loop.specs.declared.turn.Iterations.{Iterations}
 use Rattle.mk_loop.specs.LoopWords.{LoopWords}
 use Rattle.mk_loop.specs.Scopes.{turns_in}
 use Rattle.mk_paths.specs.World.{FileMap}
-use Rattle.mk_paths.specs.FilesView.{FilesView, Question, world_of}
-use Rattle.mk_paths.specs.declared.asking.FilesFault.{FilesFault}
+use Rattle.mk_paths.specs.FilesView.{FilesView, Question, view_world}
+use Rattle.mk_paths.specs.declared.files.FilesFault.{FilesFault}
 use Rattle.mk_paths.specs.declared.search_path.Settings.{Settings}
-use Rattle.mk_files.specs.Asking.{Account, account}
-use Rattle.mk_eval.specs.declared.including.ExecutedFile.{ExecutedFile}
-use Rattle.mk_eval.specs.declared.including.Included.{Included}
+use Rattle.mk_files.specs.Questions.{Account, account}
+use Rattle.mk_eval.specs.declared.includes.ExecutedFile.{ExecutedFile}
+use Rattle.mk_eval.specs.declared.includes.Included.{Included}
 use Rattle.mk_eval.specs.declared.outcome.Evaluated.{Evaluated}
 use Rattle.mk_eval.specs.declared.state.EvalState.{EvalState}
 use Rattle.mk_eval.specs.Lines.{inside_turn}
-use Rattle.mk_eval.specs.Views.{place_of, file_of, flavors_in}
+use Rattle.mk_eval.specs.Views.{place_of_file, included_file, flavors_in}
 use Rattle.mk_step.specs.declared.frames.Frame.{Frame}
 use Rattle.mk_step.specs.declared.frames.ToDo.{ToDo}
 use Rattle.mk_step.specs.declared.machine.Machine.{Machine}
@@ -34,9 +34,9 @@ use Rattle.mk_step.specs.declared.searches.Search.{Search}
 use Rattle.mk_step.specs.declared.sites.Site.{Site}
 use Rattle.mk_step.specs.Machine as machine
 use Rattle.mk_step.specs.Machine.{before, place_at, advance, do_line, do_tree, read_lines, modules_at}
-use Rattle.mk_step.specs.Paying.{Costs, weight}
-use Rattle.mk_step.specs.Points.{AreAlike}
-use Rattle.mk_step.specs.Turning.{Flavors, RunsOn, Begins}
+use Rattle.mk_step.specs.Costs.{Costs, weight}
+use Rattle.mk_step.specs.Points.{DoTheSame}
+use Rattle.mk_step.specs.Turn.{Flavors, RunsOn, BeginsMachine}
 use Rattle.mk_step.specs.Views.{site_of, frame_at, frame_of, frames_of, inner_frames, later_from, nodes_in, words_left, point_of}
 use Rattle.mk_step.specs.declared.frames.Inner.{Inner}
 
@@ -86,8 +86,8 @@ ReadsLines included levels result =
 abbrev pub FindsModule : ExecutedFile → EvalState → Search × Search → Result (Option Included) (Stop FaultAt)
     → Meter × FilesView → Meter × FilesView → Type 0
 FindsModule here state searches result old new =
-    Gives (λ found. ((state, option_map file_of found), words_left searches.1)) result (account new.0 new.1)
-    (machine.next_module (place_of here old.1.files) searches.0.line (words_left searches.0) state (account old.0 old.1))
+    Gives (λ found. ((state, option_map included_file found), words_left searches.1)) result (account new.0 new.1)
+    (machine.next_module (place_of_file here old.1.files) searches.0.line (words_left searches.0) state (account old.0 old.1))
 
 -- ---- frames on top of others
 
@@ -109,7 +109,7 @@ LeavesInner site line lines asked result =
 
 -- before any others, what is left of a frame, if anything is, has the same to do at the same cost
 abbrev pub Settles : machine.Frame → Option Frame → Type 0
-Settles frame left = (others : List machine.Frame) → AreAlike (frame ∷ others) (before (option_map frame_of left) others)
+Settles frame left = (others : List machine.Frame) → DoTheSame (frame ∷ others) (before (option_map frame_of left) others)
 
 -- the same of what is to be done at a site
 abbrev pub SettlesAt : Rc Site Global → ToDo → Option Frame → Type 0
@@ -117,7 +117,7 @@ SettlesAt site to_do left = Settles (frame_at (site_of site.value) to_do) left
 
 -- the same of all frames, of which one is taken
 abbrev pub SettlesAll : List Frame → List Frame → Option Frame → Type 0
-SettlesAll old new taken = AreAlike (frames_of old) (before (option_map frame_of taken) (frames_of new))
+SettlesAll old new taken = DoTheSame (frames_of old) (before (option_map frame_of taken) (frames_of new))
 
 -- before any others, what is left of a frame has no more to do about modules that costs nothing
 abbrev pub IsNoHeavier : machine.Frame → Option Frame → Type 0
@@ -136,7 +136,7 @@ AreNoHeavier old new taken = weight (before (option_map frame_of taken) (frames_
 abbrev pub AreAlikeFrom : List Node → ℕ → ℕ → Type 0
 AreAlikeFrom nodes from next =
     (site : machine.Site) (others : List machine.Frame)
-    → AreAlike (machine.Lines site (block_of (drop from nodes)) ∷ others) (machine.Lines site (block_of (drop next nodes)) ∷ others)
+    → DoTheSame (machine.Lines site (block_of (drop from nodes)) ∷ others) (machine.Lines site (block_of (drop next nodes)) ∷ others)
 
 -- at any site, if there is a line with this index, the lines from there on cost at least a unit
 abbrev pub CostsFrom : List Node → ℕ → Type 0
@@ -173,7 +173,7 @@ EntersLoop outer turns index result =
 
 -- among any files, a site is the place of an executed file, in the evaluation of this makefile
 abbrev pub IsHere : List ℕ → Site → ExecutedFile → Type 0
-IsHere makefile site here = (files : FileMap) → place_of here files ≡ place_at files makefile (site_of site)
+IsHere makefile site here = (files : FileMap) → place_of_file here files ≡ place_at files makefile (site_of site)
 
 -- ---- runs, beginnings and ends
 
@@ -186,7 +186,7 @@ RunsFor may view old new units result =
 -- an evaluation of the makefile of this name, with these flavors, begins among files and with these settings
 abbrev pub BeginsAmong : (FilesFault → Type 0) → FilesView → FilesView → Settings → List ℕ × Flavors
     → Result Machine (Stop FaultAt) → Type 0
-BeginsAmong may old new settings what result = Begins may old new (world_of old settings) what.0 (flavors_in what.1) result
+BeginsAmong may old new settings what result = BeginsMachine may old new (view_world old settings) what.0 (flavors_in what.1) result
 
 -- what a machine gives that has nothing left to do
 abbrev pub outcome_of : Machine → Evaluated

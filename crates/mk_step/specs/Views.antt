@@ -38,10 +38,10 @@ nodes_in otherwise = option_map (λ block. block.value.items) otherwise
 
 -- what is to be done at a site
 abbrev pub frame_at : machine.Site → ToDo → machine.Frame
-frame_at site (Lines block next) = machine.Lines site (block_of (drop next block.value.items))
-frame_at site (Later branches next otherwise) =
-    machine.Later site (later_from branches.value.items next (nodes_in otherwise))
-frame_at site (Turns line body turns next) = machine.Turns site line (block_of body.value.items) (drop next (turns_in turns.value))
+frame_at site (Lines left) = machine.Lines site (block_of (drop left.next left.block.value.items))
+frame_at site (Later left) = machine.Later site (later_from left.branches.value.items left.next (nodes_in left.otherwise))
+frame_at site (Turns left) =
+    machine.Turns site left.line (block_of left.body.value.items) (drop left.next (turns_in left.turns.value))
 frame_at site (Modules line) = machine.Modules site line
 frame_at site (Searches search) = machine.Searches site search.line (words_left search)
 

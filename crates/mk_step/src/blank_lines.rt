@@ -2,7 +2,7 @@
 ghost use Rattle.std.specs.Prelude.{◌≡◌, true, false};
 ghost use Rattle.mk_ast.specs.Kinds.{BlankLine, line_kind};
 ghost use Rattle.mk_ast.specs.Views.{tree_of};
-ghost use Rattle.mk_step.specs.Paying.{TreeCosts, IsBlank};
+ghost use Rattle.mk_step.specs.Costs.{TreeCosts, IsBlank};
 ghost use Rattle.mk_step.specs.Steps.{AreAlikeFrom, CostsFrom};
 
 use mk_ast::Node;

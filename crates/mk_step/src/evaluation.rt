@@ -1,8 +1,8 @@
 //! Evaluations from beginning to end.
 ghost use Rattle.std.specs.Prelude.{◌+◌};
-ghost use Rattle.mk_base.specs.declared.metering.TheConstants.{UNITS};
-ghost use Rattle.mk_eval.specs.Telling.{LeavesAsked, CostsAtMost};
-ghost use Rattle.mk_step.specs.Turning.{TellsMeaning, asked_in, MeansIfDone, StartsAmong, HasSpent};
+ghost use Rattle.mk_base.specs.declared.budget.TheConstants.{UNITS};
+ghost use Rattle.mk_eval.specs.Outcome.{LeavesAsked, CostsAtMost};
+ghost use Rattle.mk_step.specs.Turn.{TellsMeaning, asked_in, MeansIfDone, StartsAmong, HasSpent};
 
 use crate::machine::{Machine, Turned};
 use mk_base::{Stop, UNITS};

@@ -1,6 +1,6 @@
 //! What is still to be done.
 ghost use Rattle.std.specs.Prelude.{◌≡◌, ◌∷◌, ◌<◌, ◌≤◌, ◌&&◌, IfSome, [], None};
-ghost use Rattle.mk_step.specs.Paying.{Costs};
+ghost use Rattle.mk_step.specs.Costs.{Costs};
 ghost use Rattle.mk_step.specs.Views.{site_of, frame_at, frame_of, inner_frames};
 ghost use Rattle.mk_step.specs.Steps.{LeavesInner, PutsOn, PutsFirst, Settles, SettlesAt, SettlesAll};
 ghost use Rattle.mk_step.specs.Steps.{IsNoHeavier, AreNoHeavier, WeighsNothing};
@@ -27,32 +27,11 @@ pub(crate) struct Frame {
 #[derive(Drop)]
 pub(crate) enum ToDo {
     /// Lines and blocks.
-    Lines {
-        /// The block that they are in.
-        block: Block,
-        /// The index of the next one.
-        next: usize,
-    },
+    Lines(LinesLeft),
     /// Later branches of a choice.
-    Later {
-        /// Those with a condition.
-        branches: Branches,
-        /// The index of the next one.
-        next: usize,
-        /// The last one, which has no condition.
-        otherwise: Option<Block>,
-    },
+    Later(BranchesLeft),
     /// Iterations of a loop.
-    Turns {
-        /// The number of the loop's first line.
-        line: u64,
-        /// The lines of the loop.
-        body: Block,
-        /// All its iterations.
-        turns: Rc<Iterations>,
-        /// The index of the next one.
-        next: usize,
-    },
+    Turns(TurnsLeft),
     /// The modules that a line asks for.
     Modules {
         /// The number of the line.
@@ -60,6 +39,39 @@ pub(crate) enum ToDo {
     },
     /// The modules of the words that are left.
     Searches(Search),
+}
+
+/// The lines and blocks of a block that are still to be done.
+#[derive(Drop)]
+pub(crate) struct LinesLeft {
+    /// The block that they are in.
+    pub(crate) block: Block,
+    /// The index of the next one.
+    pub(crate) next: usize,
+}
+
+/// The later branches of a choice that may still be done.
+#[derive(Drop)]
+pub(crate) struct BranchesLeft {
+    /// Those with a condition.
+    pub(crate) branches: Branches,
+    /// The index of the next one.
+    pub(crate) next: usize,
+    /// The last one, which has no condition.
+    pub(crate) otherwise: Option<Block>,
+}
+
+/// The iterations of a loop that are still to be done.
+#[derive(Drop)]
+pub(crate) struct TurnsLeft {
+    /// The number of the loop's first line.
+    pub(crate) line: u64,
+    /// The lines of the loop.
+    pub(crate) body: Block,
+    /// All its iterations.
+    pub(crate) turns: Rc<Iterations>,
+    /// The index of the next one.
+    pub(crate) next: usize,
 }
 
 /// What is to be done before what follows a line.
@@ -132,33 +144,9 @@ impl Frame {
     {
         let Frame { site, to_do } = self;
         match to_do {
-            ToDo::Lines { block, next } => lines_from(site, block, next),
-            ToDo::Later {
-                branches,
-                next,
-                otherwise,
-            } => {
-                if next < branches.as_slice().len() {
-                    return Some(Frame {
-                        site,
-                        to_do: ToDo::Later {
-                            branches,
-                            next,
-                            otherwise,
-                        },
-                    });
-                }
-                match otherwise {
-                    Some(block) => lines_from(site, block, 0),
-                    None => None,
-                }
-            }
-            ToDo::Turns {
-                line,
-                body,
-                turns,
-                next,
-            } => turns_from(site, line, body, turns, next),
+            ToDo::Lines(left) => lines_from(site, left),
+            ToDo::Later(left) => later_from(site, left),
+            ToDo::Turns(left) => turns_from(site, left),
             ToDo::Modules { line } => Some(Frame {
                 site,
                 to_do: ToDo::Modules { line },
@@ -181,42 +169,56 @@ fn push_if_there(frames: &mut Vec<Frame>, frame: Option<Frame>) -> Result<(), Al
     }
 }
 
-/// The lines of a block from this index on, without the blank lines that they begin with. It is `None` if
-/// there are no others.
-fn lines_from(site: Rc<Site>, block: Block, next: usize) -> Option<Frame>
-    ensures alike { SettlesAt site (ToDo.Lines block next) result }
+/// The lines of a block that are left, without the blank lines that they begin with. It is `None` if there
+/// are no others.
+fn lines_from(site: Rc<Site>, left: LinesLeft) -> Option<Frame>
+    ensures alike { SettlesAt site (ToDo.Lines left) result }
     ensures lighter { WeighsNothing result }
     ensures costs { IfSome result (λ frame. Costs (frame_of frame)) }
 {
+    let LinesLeft { block, next } = left;
     let next = skip_blank_lines(block.as_slice(), next);
     if next < block.len() {
-        return Some(Frame {
-            site,
-            to_do: ToDo::Lines { block, next },
-        });
+        let to_do = ToDo::Lines(LinesLeft { block, next });
+        return Some(Frame { site, to_do });
     }
     None
 }
 
-/// The iterations of a loop from this index on. It is `None` if there are no others.
-fn turns_from(
-    site: Rc<Site>,
-    line: u64,
-    body: Block,
-    turns: Rc<Iterations>,
-    next: usize,
-) -> Option<Frame>
-    ensures alike { SettlesAt site (ToDo.Turns line body turns next) result }
+/// The later branches of a choice that are left, or the lines of the last one if no other is left. It is
+/// `None` if there is none.
+fn later_from(site: Rc<Site>, left: BranchesLeft) -> Option<Frame>
+    ensures alike { SettlesAt site (ToDo.Later left) result }
     ensures lighter { WeighsNothing result }
     ensures costs { IfSome result (λ frame. Costs (frame_of frame)) }
 {
-    if next < turns.count() {
-        let to_do = ToDo::Turns {
-            line,
-            body,
-            turns,
+    let BranchesLeft {
+        branches,
+        next,
+        otherwise,
+    } = left;
+    if next < branches.as_slice().len() {
+        let to_do = ToDo::Later(BranchesLeft {
+            branches,
             next,
-        };
+            otherwise,
+        });
+        return Some(Frame { site, to_do });
+    }
+    match otherwise {
+        Some(block) => lines_from(site, LinesLeft { block, next: 0 }),
+        None => None,
+    }
+}
+
+/// The iterations of a loop that are left. It is `None` if there are none.
+fn turns_from(site: Rc<Site>, left: TurnsLeft) -> Option<Frame>
+    ensures alike { SettlesAt site (ToDo.Turns left) result }
+    ensures lighter { WeighsNothing result }
+    ensures costs { IfSome result (λ frame. Costs (frame_of frame)) }
+{
+    if left.next < left.turns.count() {
+        let to_do = ToDo::Turns(left);
         return Some(Frame { site, to_do });
     }
     None

@@ -3,7 +3,7 @@ ghost use Rattle.std.specs.Prelude.{◌≡◌, ◌<◌, ◌+◌, length, IfOk};
 ghost use Rattle.mk_step.specs.Views.{nodes_in};
 ghost use Rattle.mk_step.specs.Steps.{Chooses, Repeats};
 
-use crate::frames::ToDo;
+use crate::frames::{BranchesLeft, LinesLeft, ToDo, TurnsLeft};
 use mk_ast::{Block, Branches};
 use mk_loop::Iterations;
 use mk_text::Logical;
@@ -20,16 +20,16 @@ pub(crate) fn chosen(
     ensures { IfOk result (Chooses held body.now branches.now 0 otherwise.now) }
 {
     if held {
-        return Ok(ToDo::Lines {
+        return Ok(ToDo::Lines(LinesLeft {
             block: body.clone()?,
             next: 0,
-        });
+        }));
     }
-    Ok(ToDo::Later {
+    Ok(ToDo::Later(BranchesLeft {
         branches: branches.clone()?,
         next: 0,
         otherwise: shared(otherwise)?,
-    })
+    }))
 }
 
 /// The same last branch once more.
@@ -46,34 +46,27 @@ fn shared(otherwise: &Option<Block>) -> Result<Option<Block>, AllocError>
 pub(crate) fn begun(head: &Logical, body: &Block, turns: Rc<Iterations>) -> Result<ToDo, AllocError>
     ensures { IfOk result (Repeats head.now.line body.now turns) }
 {
-    Ok(ToDo::Turns {
+    Ok(ToDo::Turns(TurnsLeft {
         line: head.line(),
         body: body.clone()?,
         turns,
         next: 0,
-    })
+    }))
 }
 
-/// What is to be done of a choice once the condition of the branch with this index and body is judged.
-pub(crate) fn after_condition(
-    held: bool,
-    body: Block,
-    branches: Branches,
-    next: usize,
-    otherwise: Option<Block>,
-) -> ToDo
-    requires { next < length branches.value.items }
-    ensures { Chooses held body branches (next + 1) otherwise result }
+/// What is to be done of a choice once the condition is judged of the next branch, which has this body.
+pub(crate) fn after_condition(held: bool, body: Block, left: BranchesLeft) -> ToDo
+    requires { left.next < length left.branches.value.items }
+    ensures { Chooses held body left.branches (left.next + 1) left.otherwise result }
 {
     if held {
-        return ToDo::Lines {
+        return ToDo::Lines(LinesLeft {
             block: body,
             next: 0,
-        };
+        });
     }
-    ToDo::Later {
-        branches,
-        next: next + 1,
-        otherwise,
-    }
+    ToDo::Later(BranchesLeft {
+        next: left.next + 1,
+        ..left
+    })
 }

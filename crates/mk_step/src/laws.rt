@@ -1,5 +1,5 @@
 //! What holds of all machines. The functions do nothing: their clauses are the laws.
-ghost use Rattle.mk_step.specs.Turning.{IsAskedAsSpent, IsAskedFirst};
+ghost use Rattle.mk_step.specs.Turn.{IsAskedAsSpent, IsAskedFirst};
 
 /// What a machine under way has asked is the beginning of what its whole evaluation asks.
 pub fn asked_comes_first()

@@ -1,8 +1,8 @@
 //! A machine that evaluates a makefile, turn by turn.
 ghost use Rattle.std.specs.Prelude.{◌≡◌};
 ghost use Rattle.mk_base.specs.Meter.{IsLater};
-ghost use Rattle.mk_step.specs.Turning.{MeansIfDone, StartsAmong, TellsEach, LeavesEach, Spends};
-ghost use Rattle.mk_step.specs.Turning.{IsNew, IsWithinEach, stopped};
+ghost use Rattle.mk_step.specs.Turn.{MeansIfDone, StartsAmong, TellsEach, LeavesEach, Spends};
+ghost use Rattle.mk_step.specs.Turn.{IsNew, IsWithinEach, stopped};
 ghost use Rattle.mk_step.specs.Steps.{RunsFor, BeginsAmong, outcome_of};
 
 use crate::frames::{Frame, next_frame};

@@ -1,12 +1,12 @@
 //! The search for the modules that a line asks for.
 ghost use Rattle.std.specs.Prelude.{◌≡◌, IfOk};
 ghost use Rattle.mk_base.specs.Meter.{IsLater};
-ghost use Rattle.mk_files.specs.Working.{Asks};
-ghost use Rattle.mk_eval.specs.Running.{MayOpen};
+ghost use Rattle.mk_files.specs.Work.{Asks};
+ghost use Rattle.mk_eval.specs.Steps.{MayOpen};
 ghost use Rattle.mk_step.specs.Steps.{FindsModule};
 
 use mk_base::{Budget, Fault, Stop};
-use mk_eval::{EvalState, ExecutedFile, Included, open_module};
+use mk_eval::{EvalState, ExecutedFile, ExecutedLine, Included, open_module};
 use mk_files::Files;
 use std::alloc::Global;
 
@@ -40,10 +40,13 @@ impl Search {
         ensures opens { IfOk result (MayOpen here.entry.levels) }
         ensures line { self.new.line ≡ self.old.line }
     {
-        let line = self.line;
+        let line = ExecutedLine {
+            here,
+            number: self.line,
+        };
         while self.next < self.words.len() {
             let word = self.words[self.next].as_str();
-            let opened = open_module(alloc, here, line, state, word, files, budget)?;
+            let opened = open_module(alloc, line, state, word, files, budget)?;
             self.next += 1;
             if opened.is_some() {
                 return Ok(opened);

@@ -1,24 +1,24 @@
 //! The things that a machine does, one after another.
 ghost use Rattle.std.specs.Prelude.{◌≡◌, ◌<◌, length};
 ghost use Rattle.mk_base.specs.Meter.{IsLater};
-ghost use Rattle.mk_files.specs.Working.{Asks};
+ghost use Rattle.mk_files.specs.Work.{Asks};
 ghost use Rattle.mk_loop.specs.Scopes.{turns_in};
-ghost use Rattle.mk_step.specs.Paying.{Costs};
+ghost use Rattle.mk_step.specs.Costs.{Costs};
 ghost use Rattle.mk_step.specs.Views.{frame_of};
 ghost use Rattle.mk_step.specs.Steps.{Advances, StepsAt, StepsAlone, DoesNode, DoesLine, ReadsLines};
 
-use crate::frames::{Frame, Inner, ToDo};
+use crate::frames::{BranchesLeft, Frame, Inner, LinesLeft, ToDo, TurnsLeft};
 use crate::heads::{after_condition, begun, chosen};
 use crate::machine::Machine;
 use crate::searches::Search;
 use crate::sites::Site;
-use mk_ast::{Block, Branches, Node};
+use mk_ast::{Block, Node};
 use mk_base::{Fault, PureStop, Stop};
 use mk_eval::{
-    Included, Parses, begin_turn, holds, may_ask_modules, module_words, open_line, turns_at,
+    ExecutedLine, Included, Parses, begin_turn, holds, may_ask_modules, module_words, open_line,
+    turns_at,
 };
 use mk_files::Files;
-use mk_loop::Iterations;
 use mk_text::Logical;
 use std::alloc::Global;
 use std::rc::Rc;
@@ -41,48 +41,37 @@ impl Machine {
     {
         let Frame { site, to_do } = frame;
         match to_do {
-            ToDo::Lines { block, next } => self.step_lines(alloc, site, block, next, parses, files),
-            ToDo::Later {
-                branches,
-                next,
-                otherwise,
-            } => self.step_later(alloc, site, branches, next, otherwise, files),
-            ToDo::Turns {
-                line,
-                body,
-                turns,
-                next,
-            } => Ok(self.step_turns(alloc, site, line, body, turns, next)?),
+            ToDo::Lines(left) => self.step_lines(alloc, site, left, parses, files),
+            ToDo::Later(left) => self.step_later(alloc, site, left, files),
+            ToDo::Turns(left) => Ok(self.step_turns(alloc, site, left)?),
             ToDo::Modules { line } => Ok(self.step_modules(alloc, site, line)?),
             ToDo::Searches(search) => self.step_searches(alloc, site, search, parses, files),
         }
     }
 
-    /// Does the line, or begins the block, with this index, and leaves what follows it.
+    /// Does the next line, or begins the next block, and leaves what follows it.
     fn step_lines<F: Files, P: Parses>(
         &mut self,
         alloc: Global,
         site: Rc<Site>,
-        block: Block,
-        next: usize,
+        left: LinesLeft,
         parses: &mut P,
         files: &mut F,
     ) -> Result<(), Stop<Fault>>
-        requires { next < length block.value.items }
-        ensures gives { StepsAt F.view site (ToDo.Lines block next)
+        requires { left.next < length left.block.value.items }
+        ensures gives { StepsAt F.view site (ToDo.Lines left)
             (self.old, files.old) (self.new, files.new) result }
         ensures asks { Asks F.fails_with result (F.view files.old) (F.view files.new) }
         ensures later { IsLater self.old.budget self.new.budget }
         ensures makefile { self.new.makefile ≡ self.old.makefile }
         ensures parses { P.becomes parses.old parses.new }
     {
+        let LinesLeft { block, next } = left;
         let nodes = block.as_slice();
         let inner = self.do_node(alloc, &site, &nodes[next], parses, files)?;
         let next = next + 1;
-        self.frames.push(Frame {
-            site,
-            to_do: ToDo::Lines { block, next },
-        })?;
+        let to_do = ToDo::Lines(LinesLeft { block, next });
+        self.frames.push(Frame { site, to_do })?;
         inner.push_onto(&mut self.frames)?;
         Ok(())
     }
@@ -155,68 +144,61 @@ impl Machine {
         }
     }
 
-    /// Judges the condition of the branch with this index.
+    /// Judges the condition of the next branch.
     fn step_later<F: Files>(
         &mut self,
         alloc: Global,
         site: Rc<Site>,
-        branches: Branches,
-        next: usize,
-        otherwise: Option<Block>,
+        left: BranchesLeft,
         files: &mut F,
     ) -> Result<(), Stop<Fault>>
-        requires { next < length branches.value.items }
-        ensures gives { StepsAt F.view site (ToDo.Later branches next otherwise)
+        requires { left.next < length left.branches.value.items }
+        ensures gives { StepsAt F.view site (ToDo.Later left)
             (self.old, files.old) (self.new, files.new) result }
         ensures asks { Asks F.fails_with result (F.view files.old) (F.view files.new) }
         ensures later { IsLater self.old.budget self.new.budget }
         ensures makefile { self.new.makefile ≡ self.old.makefile }
     {
         let here = site.here(&self.makefile);
-        let branch = &branches.as_slice()[next];
+        let branch = &left.branches.as_slice()[left.next];
         let head = &branch.head;
         let held = holds(alloc, here, head, &self.state, files, &mut self.budget)?;
         let body = branch.body.clone()?;
-        let to_do = after_condition(held, body, branches, next, otherwise);
+        let to_do = after_condition(held, body, left);
         self.frames.push(Frame { site, to_do })?;
         Ok(())
     }
 
-    /// Begins the iteration with this index.
+    /// Begins the next iteration, and leaves those after it.
     fn step_turns(
         &mut self,
         alloc: Global,
         site: Rc<Site>,
-        line: u64,
-        body: Block,
-        turns: Rc<Iterations>,
-        next: usize,
+        left: TurnsLeft,
     ) -> Result<(), PureStop<Fault>>
-        requires { next < length (turns_in turns.value) }
-        ensures gives { StepsAlone site (ToDo.Turns line body turns next) self.old self.new result }
+        requires { left.next < length (turns_in left.turns.value) }
+        ensures gives { StepsAlone site (ToDo.Turns left) self.old self.new result }
         ensures later { IsLater self.old.budget self.new.budget }
         ensures makefile { self.new.makefile ≡ self.old.makefile }
     {
-        begin_turn(alloc, site.here(&self.makefile), line, &mut self.budget)?;
-        let is_one = next < turns.count();
+        let here = site.here(&self.makefile);
+        let line = ExecutedLine {
+            here,
+            number: left.line,
+        };
+        begin_turn(alloc, line, &mut self.budget)?;
+        let is_one = left.next < left.turns.count();
         prove!(is_one);
         let inner = Frame {
-            site: site.inside(alloc, &turns, next)?,
-            to_do: ToDo::Lines {
-                block: body.clone()?,
+            site: site.inside(alloc, &left.turns, left.next)?,
+            to_do: ToDo::Lines(LinesLeft {
+                block: left.body.clone()?,
                 next: 0,
-            },
+            }),
         };
-        let next = next + 1;
-        self.frames.push(Frame {
-            site,
-            to_do: ToDo::Turns {
-                line,
-                body,
-                turns,
-                next,
-            },
-        })?;
+        let next = left.next + 1;
+        let to_do = ToDo::Turns(TurnsLeft { next, ..left });
+        self.frames.push(Frame { site, to_do })?;
         self.frames.push(inner)?;
         Ok(())
     }
@@ -233,7 +215,8 @@ impl Machine {
         ensures makefile { self.new.makefile ≡ self.old.makefile }
     {
         let here = site.here(&self.makefile);
-        let words = module_words(alloc, here, line, &self.state, &mut self.budget)?;
+        let at = ExecutedLine { here, number: line };
+        let words = module_words(alloc, at, &self.state, &mut self.budget)?;
         let to_do = ToDo::Searches(Search {
             line,
             words,
@@ -292,10 +275,10 @@ pub(crate) fn lines_in<P: Parses>(
     match parses.parsed(&content)? {
         Ok(makefile) => Ok(Frame {
             site: Site::outside(alloc, name, levels)?,
-            to_do: ToDo::Lines {
+            to_do: ToDo::Lines(LinesLeft {
                 block: makefile.nodes.clone()?,
                 next: 0,
-            },
+            }),
         }),
         Err(fault) => {
             let fault = Fault::new(alloc, fault.kind, name.as_str(), fault.line)?;

@@ -9,7 +9,7 @@ use Rattle.std.specs.List.{onto_first, slice_split}
 use Rattle.std.specs.Str.Iter.{split_steps, split_text, split_has_more, split_pattern}
 use Rattle.std.specs.Str.Pattern.{FindsChar}
 use Rattle.std.specs.declared.str.Split.{Split}
-use Rattle.mk_text.specs.declared.joining.Run.{Run}
+use Rattle.mk_text.specs.declared.lines.Run.{Run}
 use Rattle.mk_text.specs.Lines.{LogicalLine, goes_on, unmarked, runs_of, continued, line_at, lines_from, logical_lines}
 
 -- the lines of the source lines after the first `number` ones, if no run is open

@@ -1,9 +1,10 @@
 -- Blanks, as make(1) takes them around words: spaces and tabs.
 use Rattle.std.specs.Prelude.{ℕ, Bool, ◌==◌, ◌||◌, List, [], ◌∷◌, reverse, if◌then◌else◌}
+use Rattle.general_facts.specs.Ascii.{tab, space}
 
 -- a blank is a space or a tab
 abbrev pub is_blank : ℕ → Bool
-is_blank b = b == 32 || b == 9
+is_blank b = b == space || b == tab
 
 -- a text without the blanks that it begins with
 abbrev pub skip_blanks : List ℕ → List ℕ

@@ -3,13 +3,13 @@
 
 mod blanks;
 mod comments;
-mod joining;
 mod limits;
+mod lines;
 mod profile;
-mod splitting;
+mod span;
 
 pub use blanks::{is_blank, skip_blanks, trim_blanks};
-pub use joining::{Logical, logical_lines};
 pub use limits::{TEXT_LIMIT, TextFault, add_text, text_limit};
+pub use lines::{Logical, logical_lines};
 pub use profile::Profile;
-pub use splitting::{Span, words};
+pub use span::{Span, words};

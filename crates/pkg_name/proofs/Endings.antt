@@ -8,7 +8,7 @@ use Rattle.std.proofs.lemmas.List.Folds.{list_all-append}
 use Rattle.std.specs.List.{list_all}
 use Rattle.std.specs.Char.{is_ascii_digit}
 use Rattle.std.specs.Cmp.{first_so, second_so}
-use Rattle.pkg_name.specs.Order.{Ended, ended_by, is_number, number_of}
+use Rattle.pkg_name.specs.Order.{Ended, ended_by, is_number, number_written}
 
 -- a text without an end keeps all
 abbrev pub whole : List ℕ → Ended
@@ -41,7 +41,7 @@ no_number (first ∷ front) byte behind other =
 pub ended_at : (letter : ℕ) (front : List ℕ) (last : ℕ) (digits : List ℕ) → is_ascii_digit letter ≡ false
     → is_ascii_digit last ≡ false → list_all is_ascii_digit digits ≡ true
     → ended_by letter (front ++ last ∷ digits)
-    ≡ cond (last == letter && is_number digits) (record { before = front; number = number_of digits }) (whole (front ++ last ∷ digits))
+    ≡ cond (last == letter && is_number digits) (record { before = front; number = number_written digits }) (whole (front ++ last ∷ digits))
 unfolding ended_by
 ended_at letter [] last digits plain other all = elim (cases_Bool (last == letter && is_number digits)) [
   | inl h ↦ rw h refl
@@ -60,7 +60,7 @@ ended_at letter (byte ∷ front) last digits plain other all =
 pub ending_at : (letter start last : ℕ) (text front behind before : List ℕ) → is_ascii_digit letter ≡ false
     → list_all is_ascii_digit (drop start text) ≡ true → (0 < start → is_ascii_digit (slice_index text (start - 1)) ≡ false)
     → front ≡ take start text → behind ≡ drop start text → length front ≡ start → front ≡ before ++ last ∷ []
-    → ended_by letter text ≡ cond (last == letter && is_number behind) (record { before = before; number = number_of behind }) (whole text)
+    → ended_by letter text ≡ cond (last == letter && is_number behind) (record { before = before; number = number_written behind }) (whole text)
 ending_at letter start last text front behind before plain all other in_front in_after long cut =
     let joined : before ++ last ∷ behind ≡ text =
     sym (append_assoc before (last ∷ []) behind) ∙ ap (λ f. f ++ behind) (sym cut ∙ in_front)
@@ -74,7 +74,7 @@ ending_at letter start last text front behind before plain all other in_front in
     let last_other : is_ascii_digit last ≡ false = ap is_ascii_digit (sym stands) ∙ other some in
     let digits : list_all is_ascii_digit behind ≡ true = ap (list_all is_ascii_digit) in_after ∙ all in
     ap (ended_by letter) (sym joined) ∙ ended_at letter before last behind plain last_other digits
-    ∙ ap (λ t. cond (last == letter && is_number behind) (record { before = before; number = number_of behind }) (whole t)) joined
+    ∙ ap (λ t. cond (last == letter && is_number behind) (record { before = before; number = number_written behind }) (whole t)) joined
 
 -- digits alone
 pub ending_none : (letter start : ℕ) (text front : List ℕ) → is_ascii_digit letter ≡ false → list_all is_ascii_digit (drop start text) ≡ true
@@ -94,12 +94,12 @@ number-none (digit ∷ digits) none = absurd (true≢false (sym none ∙ eqb-suc
 
 -- the end that is taken off
 pub ending_taken : (letter last : ℕ) (text behind before : List ℕ)
-    → ended_by letter text ≡ cond (last == letter && is_number behind) (record { before = before; number = number_of behind }) (whole text)
-    → last ≡ letter → is_number behind ≡ true → ended_by letter text ≡ record { before = before; number = number_of behind }
+    → ended_by letter text ≡ cond (last == letter && is_number behind) (record { before = before; number = number_written behind }) (whole text)
+    → last ≡ letter → is_number behind ≡ true → ended_by letter text ≡ record { before = before; number = number_written behind }
 ending_taken letter last text behind before is same some = is ∙ rw (and_from (last == letter) (is_number behind) (eq-eqb last letter same) some) refl
 
 -- no end is taken off
 pub ending_kept : (letter last : ℕ) (text behind before : List ℕ)
-    → ended_by letter text ≡ cond (last == letter && is_number behind) (record { before = before; number = number_of behind }) (whole text)
+    → ended_by letter text ≡ cond (last == letter && is_number behind) (record { before = before; number = number_written behind }) (whole text)
     → (last == letter && is_number behind) ≡ false → ended_by letter text ≡ whole text
 ending_kept letter last text behind before is other = is ∙ rw other refl

@@ -7,7 +7,8 @@ use Rattle.std.specs.List.{list_all, slice_split, flat_map, join_with_byte}
 use Rattle.pkg_name.specs.Version.{begins_with_digit, is_version}
 use Rattle.text_parts.specs.Cuts.{Cut}
 use Rattle.text_parts.proofs.CutTexts.{cut_is_its_text}
-use Rattle.pkg_name.specs.Name.{NameParts, IsName, at_version, name_of, name_if, name_text, split_name, is_word, dash}
+use Rattle.pkg_name.specs.Name.{NameParts, IsName, at_version, name_of, name_if, name_text, split_name, is_stem_or_flavor}
+use Rattle.general_facts.specs.Ascii.{dash}
 use Rattle.pkg_name.specs.Laws.{NameIsItsText}
 
 -- words with dashes between them, after a dash
@@ -18,7 +19,7 @@ words_joined first (next ∷ words) = ap (λ rest. dash ∷ (first ++ rest)) (wo
 -- the text of a name made of a stem and words
 named : (stem : List ℕ) (words : List (List ℕ)) (parts : NameParts) → name_of stem words ≡ Some parts → name_text parts ≡ stem ++ dash ∷ join_with_byte dash words
 named stem [] parts e = cc
-named stem (version ∷ flavors) parts e = elim (cases_Bool (is_word stem && is_version version && list_all is_word flavors)) [
+named stem (version ∷ flavors) parts e = elim (cases_Bool (is_stem_or_flavor stem && is_version version && list_all is_stem_or_flavor flavors)) [
   | inl h ↦
       let here = rw h at e in
       let is : parts ≡ record { stem = stem; version = version; flavors = flavors } = cc here in

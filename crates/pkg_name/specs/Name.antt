@@ -1,24 +1,24 @@
 -- Names of packages: a stem, a version and flavors, with dashes between them (packages-specs(7)). A text
 -- is its bytes.
 use Rattle.std.specs.Prelude.{◌≡◌, ℕ, ◌==◌, ◌&&◌, ◌||◌, not, if◌then◌else◌, Bool, List, [], ◌∷◌, ◌++◌, Option, Some, None, option_and_then}
+use Rattle.std.specs.Prelude.{MatchOption}
 use Rattle.std.specs.List.{list_all, slice_split, flat_map}
 use Rattle.std.specs.Str.{bytes_eq}
-use Rattle.text_parts.specs.Cuts.{Cut, cut_where}
+use Rattle.std.specs.Borrow.{Bor}
+use Rattle.general_facts.specs.Ascii.{tab, space, bang, star, comma, dash, slash, less_sign, equals_sign, greater_sign}
+use Rattle.general_facts.specs.Ascii.{bar}
+use Rattle.text_parts.specs.Cuts.{Cut, cut_where, now_all}
 use Rattle.pkg_name.specs.Version.{begins_with_digit, is_version}
-
--- the byte `-`
-abbrev pub dash : ℕ
-dash = 45
 
 -- a byte that is in no stem and in no flavor: a blank, or one of `/ , | < > = * !`
 abbrev pub is_forbidden : ℕ → Bool
 is_forbidden byte =
-    byte == 32 || byte == 9 || byte == 47 || byte == 44 || byte == 124 || byte == 60 || byte == 62 || byte == 61
-    || byte == 42 || byte == 33
+    byte == space || byte == tab || byte == slash || byte == comma || byte == bar || byte == less_sign || byte == greater_sign
+    || byte == equals_sign || byte == star || byte == bang
 
 -- a stem or a flavor: it isn't empty, and has no such byte
-abbrev pub is_word : List ℕ → Bool
-is_word text = not (bytes_eq text []) && list_all (λ byte. not (is_forbidden byte)) text
+abbrev pub is_stem_or_flavor : List ℕ → Bool
+is_stem_or_flavor text = not (bytes_eq text []) && list_all (λ byte. not (is_forbidden byte)) text
 
 -- the three parts of a package's name
 pub record NameParts : Type 0 where
@@ -37,7 +37,8 @@ name_if are_parts stem version flavors = if are_parts then Some (record { stem =
 -- the name of a stem and the words after it: the first word is the version, and the others are flavors
 abbrev pub name_of : List ℕ → List (List ℕ) → Option NameParts
 name_of stem [] = None
-name_of stem (version ∷ flavors) = name_if (is_word stem && is_version version && list_all is_word flavors) stem version flavors
+name_of stem (version ∷ flavors) =
+    name_if (is_stem_or_flavor stem && is_version version && list_all is_stem_or_flavor flavors) stem version flavors
 
 -- the parts of the name that a text is, if it is one: from where the version begins, dashes separate them
 abbrev pub split_name : List ℕ → Option NameParts
@@ -50,3 +51,15 @@ name_text parts = parts.stem ++ flat_map (λ word. dash ∷ word) (parts.version
 -- a name that its own text is split into
 pub record IsName (parts : NameParts) : Type 0 where
   pub itself : split_name (name_text parts) ≡ Some parts
+
+-- a text is cut before its version, if it has one
+abbrev pub CutsAtVersion : Option (Bor (List ℕ) × Bor (List ℕ)) → List ℕ → Type 0
+CutsAtVersion result text =
+    MatchOption result (at_version text ≡ None)
+    (λ cut. at_version text ≡ Some (record { before = cut.0.now; behind = cut.1.now }))
+
+-- these words behind a stem are cut into the version and the flavors, or they are no part of a name
+abbrev pub CutsFlavors : Option (Bor (List ℕ) × Bor (List (Bor (List ℕ)))) → List ℕ → List (Bor (List ℕ)) → Type 0
+CutsFlavors result stem words =
+    MatchOption result (name_of stem (now_all words) ≡ None)
+    (λ cut. name_of stem (now_all words) ≡ name_if (is_version cut.0.now) stem cut.0.now (now_all cut.1.now))

@@ -1,6 +1,7 @@
 -- The order of versions of packages (packages-specs(7)): the lexicographic order of a list of keys. A text
 -- is its bytes.
 use Rattle.std.specs.Prelude.{ℕ, ◌==◌, ◌&&◌, if◌then◌else◌, Bool, false, List, [], ◌∷◌, map, drop, codes, Option, Some, None}
+use Rattle.std.specs.Prelude.{MatchOption, ◌≡◌}
 use Rattle.std.specs.List.{list_all, prefix_len, take_while, slice_split}
 use Rattle.std.specs.Char.{is_ascii_digit, is_ascii_alphabetic}
 use Rattle.std.specs.Str.{bytes_eq}
@@ -9,11 +10,13 @@ use Rattle.std.specs.Str.Parse.{digits_value}
 use Rattle.std.specs.Ordering.{nat_cmp, on, then_cmp}
 use Rattle.std.specs.declared.cmp.Ordering.{Ordering}
 use Rattle.std.specs.Cmp.Lexicographic.{slice_cmp}
+use Rattle.std.specs.Borrow.{Bor}
+use Rattle.general_facts.specs.Ascii.{dot, small_p, small_v}
 
 -- the number that decimal digits write; None if there are no digits
-abbrev pub number_of : List ℕ → Option ℕ
-number_of [] = None
-number_of (digit ∷ digits) = Some (digits_value 10 (digit ∷ digits))
+abbrev pub number_written : List ℕ → Option ℕ
+number_written [] = None
+number_written (digit ∷ digits) = Some (digits_value 10 (digit ∷ digits))
 
 -- what follows the bytes at the front that pass a test
 abbrev pub past_while : (ℕ → Bool) → List ℕ → List ℕ
@@ -35,7 +38,7 @@ unfoldable pub ended_by : ℕ → List ℕ → Ended
 ended_by letter [] = record { before = []; number = None }
 ended_by letter (byte ∷ rest) =
     if byte == letter && is_number rest
-    then record { before = []; number = number_of rest }
+    then record { before = []; number = number_written rest }
     else record { before = byte ∷ (ended_by letter rest).before; number = (ended_by letter rest).number }
 
 -- the keys of a part: the number it begins with, the letters after that, the number after
@@ -52,15 +55,15 @@ part_key part =
     let after_number = past_while is_ascii_digit part in
     let after_letters = past_while is_ascii_alphabetic after_number in
     record {
-      number = number_of (take_while is_ascii_digit part);
+      number = number_written (take_while is_ascii_digit part);
       letters = take_while is_ascii_alphabetic after_number;
-      second = number_of (take_while is_ascii_digit after_letters);
+      second = number_written (take_while is_ascii_digit after_letters);
       rest = past_while is_ascii_digit after_letters;
     }
 
 -- the keys of the parts between the dots of a text
 abbrev pub part_keys : List ℕ → List PartKey
-part_keys text = map part_key (slice_split (λ byte. byte == 46) text)
+part_keys text = map part_key (slice_split (λ byte. byte == dot) text)
 
 -- the keys of a version: the number of its end `v`, the parts between the dots before its ends, the number
 -- of its end `p`, and the whole text
@@ -73,8 +76,8 @@ pub record VersionKey : Type 0 where
 -- the keys of a version's text: the end `v` is taken off first, then the end `p`
 abbrev pub version_key : List ℕ → VersionKey
 version_key text =
-    let epoch = ended_by 118 text in
-    let revision = ended_by 112 epoch.before in
+    let epoch = ended_by small_v text in
+    let revision = ended_by small_p epoch.before in
     record {
       epoch = epoch.number;
       parts = part_keys revision.before;
@@ -125,3 +128,9 @@ key_cmp =
 -- how two versions compare
 abbrev pub version_cmp : List ℕ → List ℕ → Ordering
 version_cmp = on version_key key_cmp
+
+-- a text is cut behind its first part, if there is more than that
+abbrev pub CutsFirstPart : Bor (List ℕ) × Option (Bor (List ℕ)) → List ℕ → Type 0
+CutsFirstPart result text =
+    MatchOption result.1 (part_keys text ≡ part_key result.0.now ∷ [])
+    (λ behind. part_keys text ≡ part_key result.0.now ∷ part_keys behind.now)

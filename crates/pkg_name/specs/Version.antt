@@ -2,10 +2,11 @@
 use Rattle.std.specs.Prelude.{ℕ, ◌==◌, nat_le, ◌&&◌, ◌||◌, Bool, true, List, [], ◌∷◌, slice_index, IsTrue}
 use Rattle.std.specs.List.{list_all, prefix_len}
 use Rattle.std.specs.Char.{is_ascii_digit, is_ascii_alphanumeric}
+use Rattle.general_facts.specs.Ascii.{plus_sign, dot, underscore}
 
 -- a byte of a version: an ASCII letter or digit, `.`, `_` or `+`
 abbrev pub is_version_byte : ℕ → Bool
-is_version_byte byte = is_ascii_alphanumeric byte || byte == 46 || byte == 95 || byte == 43
+is_version_byte byte = is_ascii_alphanumeric byte || byte == dot || byte == underscore || byte == plus_sign
 
 -- how many digits are at the front of a text
 abbrev pub digit_count : List ℕ → ℕ

@@ -1,11 +1,10 @@
 // Names of packages: cutting them into stem, version and flavors, and printing them.
-ghost use Rattle.std.specs.Prelude.{◌≡◌, not, IfOk, IsErrOf, Some, None, map, MatchOption};
+ghost use Rattle.std.specs.Prelude.{◌≡◌, not, IfOk, IsErrOf, Some, None, map};
 ghost use Rattle.refusals.specs.Refused.{refused};
 ghost use Rattle.std.specs.List.{list_all};
 ghost use Rattle.std.specs.String.{string_bytes};
-ghost use Rattle.pkg_name.specs.Version.{is_version};
-ghost use Rattle.pkg_name.specs.Name.{split_name, name_text, at_version, name_of, name_if, is_word, is_forbidden};
-ghost use Rattle.text_parts.specs.Cuts.{now_all};
+ghost use Rattle.pkg_name.specs.Name.{split_name, name_text, is_stem_or_flavor, is_forbidden};
+ghost use Rattle.pkg_name.specs.Name.{CutsAtVersion, CutsFlavors};
 ghost use Rattle.pkg_name.specs.declared.name.NameFault.TheVariants.{Memory};
 
 use crate::version::{Version, VersionFault, begins_with_digit};
@@ -149,8 +148,7 @@ impl fmt::Display for PkgName {
 
 // What is before the first dash that a digit follows, and what follows that dash.
 fn cut_at_version(text: &str) -> Option<(&str, &str)>
-    ensures { MatchOption result (at_version text.now ≡ None)
-        (λ cut. at_version text.now ≡ Some (record { before = cut.0.now; behind = cut.1.now })) }
+    ensures { CutsAtVersion result text.now }
 {
     cut_where(text, '-', begins_with_digit)
 }
@@ -158,9 +156,7 @@ fn cut_at_version(text: &str) -> Option<(&str, &str)>
 // The words after a stem as a version, not read yet, and flavors; `None` if the stem or a
 // flavor isn't one.
 fn version_and_flavors<'a, 'b>(stem: &str, words: &'b [&'a str]) -> Option<(&'a str, &'b [&'a str])>
-    ensures { MatchOption result (name_of stem.now (now_all words.now) ≡ None)
-        (λ cut. name_of stem.now (now_all words.now)
-        ≡ name_if (is_version cut.0.now) stem.now cut.0.now (now_all cut.1.now)) }
+    ensures { CutsFlavors result stem.now words.now }
 {
     let (version, flavors) = words.split_first()?;
     if is_word_text(stem) && are_words(flavors) {
@@ -172,14 +168,14 @@ fn version_and_flavors<'a, 'b>(stem: &str, words: &'b [&'a str]) -> Option<(&'a 
 
 // Whether each text is a stem or a flavor.
 fn are_words(texts: &[&str]) -> bool
-    ensures { result ≡ list_all (λ text. is_word text.now) texts.now }
+    ensures { result ≡ list_all (λ text. is_stem_or_flavor text.now) texts.now }
 {
     texts.iter().all(|text| is_word_text(text))
 }
 
 // Whether a text is a stem or a flavor.
 fn is_word_text(text: &str) -> bool
-    ensures { result ≡ is_word text.now }
+    ensures { result ≡ is_stem_or_flavor text.now }
 {
     !text.is_empty() && has_word_bytes(text)
 }

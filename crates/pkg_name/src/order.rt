@@ -1,12 +1,12 @@
 // The order of versions, without memory: each text is cut where its keys end, and each byte of it is read a
 // fixed number of times.
-ghost use Rattle.std.specs.Prelude.{◌≡◌, ◌==◌, ◌<◌, ◌≤◌, ◌-◌, false, IsTrue, length, drop, slice_index, MatchOption, IfSome, [], ◌∷◌};
+ghost use Rattle.std.specs.Prelude.{◌≡◌, ◌==◌, ◌<◌, ◌≤◌, ◌-◌, false, IsTrue, length, drop, slice_index, IfSome, []};
 ghost use Rattle.std.specs.List.{list_all, take_while, prefix_len, position_or_len};
 ghost use Rattle.std.specs.Char.{is_ascii_digit, is_ascii_alphabetic};
 ghost use Rattle.std.specs.Cmp.Lexicographic.{slice_cmp};
 ghost use Rattle.pkg_name.specs.Version.{has_short_numbers};
-ghost use Rattle.pkg_name.specs.Order.{number_of, past_while, ended_by, part_key, part_keys, part_cmp, letters_rank};
-ghost use Rattle.pkg_name.specs.Order.{letters_cmp, version_cmp};
+ghost use Rattle.pkg_name.specs.Order.{number_written, past_while, ended_by, part_key, part_keys, part_cmp, letters_rank};
+ghost use Rattle.pkg_name.specs.Order.{letters_cmp, version_cmp, CutsFirstPart};
 
 use std::cmp::Ordering;
 use std::str;
@@ -89,7 +89,7 @@ fn final_digits(text: &[u8]) -> usize
 fn number(digits: &[u8]) -> Option<u64>
     requires digits { IsTrue (list_all is_ascii_digit digits.now) }
     requires few { length digits.now ≤ 18 }
-    ensures { result ≡ number_of digits.now }
+    ensures { result ≡ number_written digits.now }
 {
     let Ok(digits) = str::from_utf8(digits) else {
         return None;
@@ -126,8 +126,7 @@ fn compare_parts(text: &[u8], other: &[u8]) -> Ordering
 // The first part of a text, and what follows its dot, if there is one.
 fn first_part(text: &[u8]) -> (&[u8], Option<&[u8]>)
     requires short { IsTrue (has_short_numbers text.now) }
-    ensures parts { MatchOption result.1 (part_keys text.now ≡ part_key result.0.now ∷ [])
-        (λ behind. part_keys text.now ≡ part_key result.0.now ∷ part_keys behind.now) }
+    ensures parts { CutsFirstPart result text.now }
     ensures short { IsTrue (has_short_numbers result.0.now) }
     ensures after_short { IfSome result.1 (λ behind. IsTrue (has_short_numbers behind.now)) }
     ensures shorter { IfSome result.1 (λ behind. length behind.now < length text.now) }
@@ -184,7 +183,7 @@ fn keys_of_part(part: &[u8]) -> PartKeys<'_>
 // The number that a text begins with, if any, and what follows it.
 fn take_number(text: &[u8]) -> (Option<u64>, &[u8])
     requires short { IsTrue (has_short_numbers text.now) }
-    ensures number { result.0 ≡ number_of (take_while is_ascii_digit text.now) }
+    ensures number { result.0 ≡ number_written (take_while is_ascii_digit text.now) }
     ensures behind { result.1.now ≡ past_while is_ascii_digit text.now }
     ensures short { IsTrue (has_short_numbers result.1.now) }
 {

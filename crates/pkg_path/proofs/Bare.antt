@@ -3,14 +3,14 @@ use Rattle.std.proofs.Common.{◌≡◌, ◌∙◌, sym, ap, refl, arith, ℕ, �
 use Rattle.std.specs.List.{filter, find, list_any, slice_split, onto_first, position_or_len, before_first, after_first}
 use Rattle.std.specs.Prelude.{is_none}
 use Rattle.text_parts.specs.Order.{in_order}
-use Rattle.pkg_path.specs.Paths.{elements_of, flavors_of, is_flavor, is_subpackage, is_well_cut, value_of, is_bare, is_bare_path, names_directory}
+use Rattle.pkg_path.specs.Paths.{elements_of, flavors_of, is_flavor, is_subpackage, is_well_cut, value_of, is_bare_directory, is_bare_path, names_directory}
 use Rattle.pkg_path.specs.declared.faults.PkgPathFault.TheVariants.{TwoSubpackages, BadCharacter}
 use Rattle.std.specs.Result.{result_ok}
 use Rattle.std.proofs.lemmas.Grind.{common_steps}
 use Rattle.pkg_path.proofs.Cutting.{is_empty, cut}
 use Rattle.pkg_path.proofs.FirstComma.{is_comma, at_comma}
 
-pub empty_is_none : (text : List ℕ) → eqb (length text) 0 ≡ true → is_bare text ≡ false
+pub empty_is_none : (text : List ℕ) → eqb (length text) 0 ≡ true → is_bare_directory text ≡ false
 empty_is_none text none = ap (λ path. is_bare_path (result_ok path)) (is_empty text none)
 
 by_well : (text : List ℕ) (well : Bool) → is_bare_path (result_ok (cond well (Ok (value_of (text ∷ []))) (Err BadCharacter))) ≡ well
@@ -18,7 +18,7 @@ by_well text true = refl
 by_well text false = refl
 
 -- a text that is its only element
-pub alone : (text : List ℕ) → eqb (length text) 0 ≡ false → text ∷ [] ≡ elements_of text → is_bare text ≡ is_well_cut text text []
+pub alone : (text : List ℕ) → eqb (length text) 0 ≡ false → text ∷ [] ≡ elements_of text → is_bare_directory text ≡ is_well_cut text text []
 alone text some e = ap (λ path. is_bare_path (result_ok path)) (cut text text [] some e) ∙ by_well text (is_well_cut text text [])
 
 and_false : (b : Bool) → (b && false) ≡ false
@@ -62,7 +62,7 @@ some_text : (text : List ℕ) → position_or_len is_comma text < length text �
 some_text text there = grind (arith, common_steps)
 
 -- a text with a comma
-pub with_choices : (text : List ℕ) → position_or_len is_comma text < length text → is_bare text ≡ false
+pub with_choices : (text : List ℕ) → position_or_len is_comma text < length text → is_bare_directory text ≡ false
 with_choices text there =
     let directory : List ℕ = before_first is_comma text in
     let choices : List ℕ = after_first is_comma text in

@@ -3,7 +3,7 @@ use Rattle.std.proofs.Common.{◌≡◌, ◌∙◌, sym, ap, refl, ℕ, ◌<◌,
 use Rattle.std.proofs.lemmas.Grind.{common_steps}
 use Rattle.std.specs.Borrow.{Bor}
 use Rattle.std.specs.List.{filter, find}
-use Rattle.pkg_path.specs.Paths.{PathValue, elements_of, is_subpackage, has_two_subpackages, is_well_cut, is_well_written, directory_of, choices_of, flavors_of, value_of, path_of}
+use Rattle.pkg_path.specs.Paths.{PathValue, elements_of, is_subpackage, has_two_subpackages, is_well_cut, is_well_written, directory_element, choices_of, flavors_of, value_of, path_of}
 use Rattle.text_parts.specs.Cuts.{now_all}
 use Rattle.pkg_path.specs.declared.faults.PkgPathFault.TheVariants.{Empty, TwoSubpackages, BadCharacter}
 
@@ -25,7 +25,7 @@ pub cut : (text directory : List ℕ) (choices : List (List ℕ)) → eqb (lengt
 unfolding path_of
 cut text directory choices some e =
     ap (λ b. cond b (Err Empty) (cond (has_two_subpackages (elements_of text)) (Err TwoSubpackages) (cond (is_well_written text) (Ok (value_of (elements_of text))) (Err BadCharacter)))) some
-    ∙ ap (λ elements. cond (has_two_subpackages elements) (Err TwoSubpackages) (cond (is_well_cut text (directory_of elements) (choices_of elements)) (Ok (value_of elements)) (Err BadCharacter))) (sym e)
+    ∙ ap (λ elements. cond (has_two_subpackages elements) (Err TwoSubpackages) (cond (is_well_cut text (directory_element elements) (choices_of elements)) (Ok (value_of elements)) (Err BadCharacter))) (sym e)
 
 pub has_two : (text directory : List ℕ) (choices : List (Bor (List ℕ))) (n : ℕ) → eqb (length text) 0 ≡ false → directory ∷ now_all choices ≡ elements_of text
     → n ≡ length (filter (λ choice. is_subpackage choice.now) choices) → 1 < n → path_of text ≡ Err TwoSubpackages

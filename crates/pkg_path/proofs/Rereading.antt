@@ -10,7 +10,8 @@ use Rattle.std.specs.List.{list_all, list_any, filter, find}
 use Rattle.std.specs.Option.{option_to_list}
 use Rattle.std.specs.Str.{bytes_eq}
 use Rattle.text_parts.specs.Ordered.{among-in_order, in_order-again}
-use Rattle.pkg_path.specs.Paths.{comma, PathValue, elements_of, directory_of, choices_of, is_subpackage, is_flavor, flavors_of, value_of, has_two_subpackages, may_occur, is_directory, is_bare_dash, is_well_written, path_of, flavor_choices, choices_text, canonical, IsPath, without_subpackage}
+use Rattle.general_facts.specs.Ascii.{comma}
+use Rattle.pkg_path.specs.Paths.{PathValue, elements_of, directory_element, choices_of, is_subpackage, is_flavor, flavors_of, value_of, has_two_subpackages, may_occur, is_directory, is_bare_dash, is_well_written, path_of, flavor_choices, choices_text, canonical, IsPath, without_subpackage}
 use Rattle.text_parts.specs.Order.{in_order}
 use Rattle.pkg_path.specs.declared.faults.PkgPathFault.TheVariants.{Empty, TwoSubpackages, BadCharacter}
 
@@ -77,7 +78,7 @@ sound_name (choice ∷ choices) a b =
       | false ↦ λ is. sound_name choices e.1 n.1
     ] refl
 
-directory_plain : (elements : List (List ℕ)) → list_all (list_all is_plain) elements ≡ true → list_all is_plain (directory_of elements) ≡ true
+directory_plain : (elements : List (List ℕ)) → list_all (list_all is_plain) elements ≡ true → list_all is_plain (directory_element elements) ≡ true
 directory_plain [] a = refl
 directory_plain (directory ∷ choices) a = (and_parts (list_all is_plain directory) (list_all (list_all is_plain) choices) a).0
 
@@ -92,8 +93,8 @@ sound_by false true written text path is e = absurd cc
 sound_by false false false text path is e = absurd cc
 sound_by false false true text path is e =
     let same : value_of (elements_of text) ≡ path = cc in
-    let t = and_parts (list_all may_occur text && is_directory (directory_of (elements_of text))) (not (list_any is_bare_dash (choices_of (elements_of text)))) is in
-    let bytes = and_parts (list_all may_occur text) (is_directory (directory_of (elements_of text))) t.0 in
+    let t = and_parts (list_all may_occur text && is_directory (directory_element (elements_of text))) (not (list_any is_bare_dash (choices_of (elements_of text)))) is in
+    let bytes = and_parts (list_all may_occur text) (is_directory (directory_element (elements_of text))) t.0 in
     let plain = parts_are_between comma may_occur text bytes.0 in
     let choices = choices_plain (elements_of text) plain in
     let sound : IsSound (value_of (elements_of text)) = record {
@@ -232,7 +233,7 @@ names_itself path s =
     let cut : elements_of text ≡ path.directory ∷ written path = written_is_cut_again comma may_occur path.directory (written path) whole in
     let bytes : list_all may_occur text ≡ true = written_parts_may_occur comma may_occur path.directory (written path) refl whole in
     let well : is_well_written text ≡ true =
-    ap (λ elements. (list_all may_occur text && is_directory (directory_of elements)) && not (list_any is_bare_dash (choices_of elements))) cut
+    ap (λ elements. (list_all may_occur text && is_directory (directory_element elements)) && not (list_any is_bare_dash (choices_of elements))) cut
     ∙ and_from (list_all may_occur text && is_directory path.directory) (not (list_any is_bare_dash (written path))) (and_from (list_all may_occur text) (is_directory path.directory) bytes s.parts) (ap not (none_bare (flavor_choices path.flavors) path.subpackage none_names s.subpackage)) in
     let value : value_of (path.directory ∷ written path) ≡ path =
     λ i. record { directory = path.directory; flavors = flavors_again path.flavors path.subpackage s.flavors s.subpackage i; subpackage = found_after (flavor_choices path.flavors) path.subpackage none_names s.subpackage i } in

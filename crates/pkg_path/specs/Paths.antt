@@ -7,6 +7,8 @@ use Rattle.std.specs.Prelude.{codes}
 use Rattle.std.specs.List.{slice_split, flat_map, list_all, list_any}
 use Rattle.std.specs.Result.{result_ok}
 use Rattle.std.specs.Str.{bytes_eq}
+use Rattle.general_facts.specs.Ascii.{bang, star, comma, dash, slash, colon, less_sign, equals_sign, greater_sign, bar}
+use Rattle.general_facts.specs.Ascii.{tilde}
 use Rattle.text_parts.specs.Order.{in_order}
 use Rattle.pkg_path.specs.declared.faults.PkgPathFault.{PkgPathFault}
 use Rattle.pkg_path.specs.declared.faults.PkgPathFault.TheVariants.{Empty, TwoSubpackages, BadCharacter, Memory}
@@ -18,23 +20,13 @@ pub record PathValue : Type 0 where
   pub flavors : Option (List (List ℕ))
   pub subpackage : Option (List ℕ)
 
--- the bytes `,`, `-` and `/`
-abbrev pub comma : ℕ
-comma = 44
-
-abbrev pub dash : ℕ
-dash = 45
-
-abbrev pub slash : ℕ
-slash = 47
-
 -- the elements of a path, which commas separate: the directory, and then the choices
 abbrev pub elements_of : List ℕ → List (List ℕ)
 elements_of text = slice_split (λ byte. byte == comma) text
 
-abbrev pub directory_of : List (List ℕ) → List ℕ
-directory_of [] = []
-directory_of (directory ∷ choices) = directory
+abbrev pub directory_element : List (List ℕ) → List ℕ
+directory_element [] = []
+directory_element (directory ∷ choices) = directory
 
 abbrev pub choices_of : List (List ℕ) → List (List ℕ)
 choices_of [] = []
@@ -57,7 +49,7 @@ flavors_of choices =
 -- what the elements of a path say
 abbrev pub value_of : List (List ℕ) → PathValue
 value_of elements = record {
-  directory = directory_of elements;
+  directory = directory_element elements;
   flavors = flavors_of (choices_of elements);
   subpackage = find is_subpackage (choices_of elements);
 }
@@ -69,16 +61,16 @@ has_two_subpackages elements = nat_lt 1 (length (filter is_subpackage (choices_o
 -- a byte of a path: printable ASCII, no blank, and none of `: | < > = *`
 abbrev pub may_occur : ℕ → Bool
 may_occur byte =
-    nat_le 33 byte && nat_le byte 126 && not (byte == 58) && not (byte == 124) && not (byte == 60) && not (byte == 62)
-    && not (byte == 61) && not (byte == 42)
+    nat_le bang byte && nat_le byte tilde && not (byte == colon) && not (byte == bar) && not (byte == less_sign)
+    && not (byte == greater_sign) && not (byte == equals_sign) && not (byte == star)
 
 -- a part of a directory: not empty, and not `.` or `..`
-abbrev pub is_part : List ℕ → Bool
-is_part part = not (bytes_eq part [] || bytes_eq part (codes ".") || bytes_eq part (codes ".."))
+abbrev pub is_directory_part : List ℕ → Bool
+is_directory_part part = not (bytes_eq part [] || bytes_eq part (codes ".") || bytes_eq part (codes ".."))
 
 -- a directory: its parts are what slashes separate
 abbrev pub is_directory : List ℕ → Bool
-is_directory directory = list_all is_part (slice_split (λ byte. byte == slash) directory)
+is_directory directory = list_all is_directory_part (slice_split (λ byte. byte == slash) directory)
 
 -- a dash without a name
 abbrev pub is_bare_dash : List ℕ → Bool
@@ -89,7 +81,7 @@ abbrev pub is_well_cut : List ℕ → List ℕ → List (List ℕ) → Bool
 is_well_cut text directory choices = list_all may_occur text && is_directory directory && not (list_any is_bare_dash choices)
 
 abbrev pub is_well_written : List ℕ → Bool
-is_well_written text = is_well_cut text (directory_of (elements_of text)) (choices_of (elements_of text))
+is_well_written text = is_well_cut text (directory_element (elements_of text)) (choices_of (elements_of text))
 
 -- the path that a text names, or the first refusal that fits
 unfoldable pub path_of : List ℕ → Result PathValue PkgPathFault
@@ -112,8 +104,8 @@ is_bare_path None = false
 is_bare_path (Some path) = names_directory path
 
 -- a text that names such a path: a directory alone
-abbrev pub is_bare : List ℕ → Bool
-is_bare text = is_bare_path (path_if_one text)
+abbrev pub is_bare_directory : List ℕ → Bool
+is_bare_directory text = is_bare_path (path_if_one text)
 
 -- the number of a refusal; running out of memory has none
 abbrev pub refusal_number : PkgPathFault → Option ℕ

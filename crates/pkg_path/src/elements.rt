@@ -1,10 +1,9 @@
 // The elements of a path's text, and what they may be.
-ghost use Rattle.std.specs.Prelude.{◌≡◌, ◌∷◌, IfOk, map, filter, find, length, option_map};
+ghost use Rattle.std.specs.Prelude.{◌≡◌, ◌∷◌, IfOk, filter, length};
 ghost use Rattle.std.specs.List.{list_all, list_any};
-ghost use Rattle.std.specs.String.{string_bytes};
-ghost use Rattle.pkg_path.specs.Paths.{elements_of, is_subpackage, is_flavor, flavors_of, may_occur, is_part};
+ghost use Rattle.pkg_path.specs.Paths.{elements_of, is_subpackage, is_flavor, flavors_of, may_occur, is_directory_part};
 ghost use Rattle.pkg_path.specs.Paths.{is_directory, is_bare_dash, is_well_cut};
-ghost use Rattle.pkg_path.specs.Seen.{flavors_seen};
+ghost use Rattle.pkg_path.specs.Seen.{flavors_seen, FindsFlavors, GivesSubpackage};
 ghost use Rattle.text_parts.specs.Cuts.{now_all};
 
 use crate::flavors::Flavors;
@@ -91,7 +90,7 @@ fn is_directory(text: &str) -> bool
 
 // Whether a part may be in a directory.
 fn is_part(part: &str) -> bool
-    ensures { result ≡ is_part part.now }
+    ensures { result ≡ is_directory_part part.now }
 {
     part != "" && part != "." && part != ".."
 }
@@ -117,8 +116,7 @@ pub(crate) fn flavors_of(alloc: Global, choices: &[&str]) -> Result<Flavors, All
 
 // The flavors that choices name, as they are written.
 fn named_flavors(alloc: Global, choices: &[&str]) -> Result<Vec<String>, AllocError>
-    ensures { IfOk result (λ flavors. map string_bytes flavors.items
-        ≡ filter is_flavor (now_all choices.now)) }
+    ensures { FindsFlavors result choices.now }
 {
     let mut flavors = Vec::new(alloc);
     for choice in choices {
@@ -131,8 +129,7 @@ fn named_flavors(alloc: Global, choices: &[&str]) -> Result<Vec<String>, AllocEr
 
 // The first subpackage that choices name; `None` if they name none.
 pub(crate) fn subpackage_of(alloc: Global, choices: &[&str]) -> Result<Option<String>, AllocError>
-    ensures { IfOk result (λ name. option_map string_bytes name
-        ≡ find is_subpackage (now_all choices.now)) }
+    ensures { GivesSubpackage result choices.now }
 {
     for choice in choices {
         if is_subpackage(choice) {

@@ -1,8 +1,6 @@
 // The flavors of a path.
-ghost use Rattle.std.specs.Fmt.{DisplaysOnOk};
-ghost use Rattle.std.specs.Prelude.{◌≡◌, ◌↔◌, IsTrue, IfOk, Some, map, string_bytes};
-ghost use Rattle.pkg_path.specs.Paths.{flavor_choices, choices_text};
-ghost use Rattle.pkg_path.specs.Seen.{flavors_seen};
+ghost use Rattle.std.specs.Prelude.{◌≡◌, ◌↔◌, IsTrue, IfOk, map, string_bytes};
+ghost use Rattle.pkg_path.specs.Seen.{flavors_seen, WritesChoices, WritesFlavors};
 
 use std::alloc::{AllocError, Global};
 use std::fmt;
@@ -50,8 +48,7 @@ pub(crate) fn write_flavors<W: fmt::Write>(
     flavors: &Flavors,
     f: &mut fmt::Formatter<W>,
 ) -> fmt::Result
-    ensures { DisplaysOnOk W.write_str_gives f.old result
-        (Some (choices_text (flavor_choices (flavors_seen flavors.now)))) f.new }
+    ensures { WritesFlavors W.write_str_gives result f.old f.new flavors.now }
 {
     match flavors {
         Flavors::Default => Ok(()),
@@ -62,8 +59,7 @@ pub(crate) fn write_flavors<W: fmt::Write>(
 
 // Writes names, each after a comma.
 fn write_names<W: fmt::Write>(names: &[String], f: &mut fmt::Formatter<W>) -> fmt::Result
-    ensures { DisplaysOnOk W.write_str_gives f.old result
-        (Some (choices_text (map string_bytes names.now))) f.new }
+    ensures { WritesChoices W.write_str_gives result f.old f.new (map string_bytes names.now) }
 {
     for name in names {
         f.write_str(",")?;

@@ -1,11 +1,12 @@
 // Package paths.
-ghost use Rattle.std.specs.Prelude.{◌≡◌, ◌↔◌, IsTrue, IfOk, IsErrOf, map, option_map, Some};
+ghost use Rattle.std.specs.Prelude.{◌≡◌, ◌↔◌, IsTrue, IfOk, map, option_map, Some};
 ghost use Rattle.std.specs.String.{string_bytes};
 ghost use Rattle.std.specs.Option.{option_copied};
 ghost use Rattle.std.specs.Str.{bytes_eq};
 ghost use Rattle.std.specs.Cmp.{partial_equiv_from_equiv};
 ghost use Rattle.std.proofs.lemmas.Cmp.{on_equiv, nat_list_eq_equiv};
-ghost use Rattle.pkg_path.specs.Paths.{path_of, path_if_one, is_bare, canonical, port_path, IsPath, without_subpackage};
+ghost use Rattle.pkg_path.specs.Paths.{path_of, path_if_one, is_bare_directory, canonical, port_path, IsPath, without_subpackage};
+ghost use Rattle.pkg_path.specs.Seen.{FailsReading, CopiesName, TellsSameName};
 
 use crate::elements::{
     count_subpackages, cut_into_elements, flavors_of, is_well_written, subpackage_of,
@@ -50,7 +51,7 @@ impl Model for PkgPath {
 
 /// Whether a text is a path that chooses no flavors and names no subpackage: a directory alone. It takes no memory.
 pub fn is_bare(text: &str) -> bool
-    ensures { result ≡ is_bare text.now }
+    ensures { result ≡ is_bare_directory text.now }
 {
     match text.split_once(',') {
         Some(_) => false,
@@ -73,12 +74,9 @@ impl PkgPath {
     /// out, it is `Memory`.
     pub fn read(alloc: Global, text: &str) -> Result<PkgPath, PkgPathFault>
         ensures ok { IfOk result (λ path. path_of text.now ≡ Ok path) }
-        ensures empty { IsErrOf result PkgPathFault.Empty
-            → path_of text.now ≡ Err PkgPathFault.Empty }
-        ensures two { IsErrOf result PkgPathFault.TwoSubpackages
-            → path_of text.now ≡ Err PkgPathFault.TwoSubpackages }
-        ensures bad { IsErrOf result PkgPathFault.BadCharacter
-            → path_of text.now ≡ Err PkgPathFault.BadCharacter }
+        ensures empty { FailsReading result PkgPathFault.Empty text.now }
+        ensures two { FailsReading result PkgPathFault.TwoSubpackages text.now }
+        ensures bad { FailsReading result PkgPathFault.BadCharacter text.now }
     {
         if text.is_empty() {
             return Err(PkgPathFault::Empty);
@@ -220,8 +218,7 @@ impl Eq for PkgPath {
 
 // The same subpackage, or none.
 fn copy_name(alloc: Global, name: &Option<String>) -> Result<Option<String>, AllocError>
-    ensures { IfOk result (λ copied. option_map string_bytes copied
-        ≡ option_map string_bytes name.now) }
+    ensures { CopiesName result name.now }
 {
     match name {
         Some(name) => Ok(Some(String::from_str(alloc, name.as_str())?)),
@@ -231,8 +228,7 @@ fn copy_name(alloc: Global, name: &Option<String>) -> Result<Option<String>, All
 
 // Whether these are the same subpackage, or both none.
 fn same_subpackage(one: &Option<String>, other: &Option<String>) -> bool
-    ensures { IsTrue result ↔ (option_map string_bytes one.now
-        ≡ option_map string_bytes other.now) }
+    ensures { TellsSameName result one.now other.now }
 {
     one == other
 }

@@ -2,7 +2,8 @@
 use Rattle.std.proofs.Common.{◌≡◌, ◌∙◌, sym, ap, refl, ℕ, Bool, true, false, cond, eqb, List, map, Result, Ok, Err}
 use Rattle.std.specs.List.{slice_split}
 use Rattle.std.specs.Result.{IsOk}
-use Rattle.pkg_spec.specs.Alternatives.{AlternativeValue, bar, alternative_of, spec_of, unless_refused}
+use Rattle.pkg_spec.specs.Alternatives.{AlternativeValue, alternative_of, spec_of, unless_refused}
+use Rattle.general_facts.specs.Ascii.{bar}
 use Rattle.pkg_spec.specs.Seen.{ReadsParts, alternative_seen}
 use Rattle.pkg_spec.specs.declared.spec.Reading.{Reading}
 use Rattle.pkg_spec.specs.declared.faults.SpecFault.{SpecFault}

@@ -6,7 +6,7 @@ use Rattle.std.specs.List.{list_all, slice_split}
 use Rattle.std.specs.Option.{option_map}
 use Rattle.pkg_spec.specs.Alternatives.{AlternativeValue, ComparisonValue, at_versions, alternative_of, alternative_of_cut, alternative_of_words, are_versions, comparisons_of, has_name, forbids}
 use Rattle.text_parts.specs.Cuts.{Cut, now_all}
-use Rattle.pkg_name.specs.Name.{dash}
+use Rattle.general_facts.specs.Ascii.{dash}
 use Rattle.pkg_spec.specs.declared.faults.SpecFault.TheVariants.{NoStem, BadVersion, EmptyAlternative}
 
 pub is_empty : (text : List ℕ) → eqb (length text) 0 ≡ true → alternative_of text ≡ Err EmptyAlternative

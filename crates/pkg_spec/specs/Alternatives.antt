@@ -7,9 +7,10 @@ use Rattle.std.specs.List.{slice_split, list_all, list_any, starts_with, filter_
 use Rattle.std.specs.Char.{is_ascii_digit}
 use Rattle.std.specs.Result.{result_ok}
 use Rattle.std.specs.Str.{bytes_eq}
+use Rattle.general_facts.specs.Ascii.{bang, star, comma, less_sign, equals_sign, greater_sign, bar}
 use Rattle.text_parts.specs.Cuts.{Cut, cut_where}
 use Rattle.pkg_name.specs.Version.{is_version}
-use Rattle.pkg_name.specs.Name.{dash}
+use Rattle.general_facts.specs.Ascii.{dash}
 use Rattle.pkg_spec.specs.declared.comparisons.ComparisonSign.{ComparisonSign}
 use Rattle.pkg_spec.specs.declared.comparisons.ComparisonSign.TheVariants.{Below, AtMost, Equals, AtLeast, Above}
 use Rattle.pkg_spec.specs.declared.faults.SpecFault.{SpecFault}
@@ -26,16 +27,6 @@ pub record AlternativeValue : Type 0 where
   pub comparisons : List ComparisonValue
   pub wanted : List (List ℕ)
   pub forbidden : List (List ℕ)
-
--- the bytes `!`, `,` and `|`
-abbrev pub bang : ℕ
-bang = 33
-
-abbrev pub comma : ℕ
-comma = 44
-
-abbrev pub bar : ℕ
-bar = 124
 
 -- the sign that a comparison begins with, the longer one if two fit, and the version after it; without a
 -- sign it is `=`
@@ -61,18 +52,18 @@ abbrev pub comparisons_in : List (List ℕ) → Option (List ComparisonValue)
 comparisons_in texts = if list_all is_comparison texts then Some (map signed texts) else None
 
 -- the comparisons between the commas of a text
-abbrev pub pieces_of : List ℕ → List (List ℕ)
-pieces_of versions = slice_split (λ byte. byte == comma) versions
+abbrev pub comparison_texts : List ℕ → List (List ℕ)
+comparison_texts versions = slice_split (λ byte. byte == comma) versions
 
 -- the versions of an alternative: `*`, which is no comparison, or comparisons
 abbrev pub is_any : List ℕ → Bool
 is_any versions = bytes_eq versions (codes "*")
 
 abbrev pub are_versions : List ℕ → Bool
-are_versions versions = is_any versions || list_all is_comparison (pieces_of versions)
+are_versions versions = is_any versions || list_all is_comparison (comparison_texts versions)
 
 abbrev pub comparisons_of : List ℕ → List ComparisonValue
-comparisons_of versions = if is_any versions then [] else map signed (pieces_of versions)
+comparisons_of versions = if is_any versions then [] else map signed (comparison_texts versions)
 
 -- the comparisons of the versions that a text is, if it is versions
 abbrev pub versions_of : List ℕ → Option (List ComparisonValue)
@@ -97,7 +88,9 @@ has_name flavor = not (bytes_eq flavor []) && not (bytes_eq flavor (codes "!"))
 
 -- versions begin with a digit, `*`, or a sign
 abbrev pub begins_versions : List ℕ → Bool
-begins_versions text = let byte = slice_index text 0 in is_ascii_digit byte || byte == 42 || byte == 60 || byte == 61 || byte == 62
+begins_versions text =
+    let byte = slice_index text 0 in
+    is_ascii_digit byte || byte == star || byte == less_sign || byte == equals_sign || byte == greater_sign
 
 -- what is before the first dash that versions follow, and what follows that dash
 abbrev pub at_versions : List ℕ → Option Cut

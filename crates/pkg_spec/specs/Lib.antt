@@ -1,4 +1,4 @@
 pub mod Alternatives
-pub mod Admitting
+pub mod NameSet
 pub mod Seen
-pub mod Giving
+pub mod ReadResults

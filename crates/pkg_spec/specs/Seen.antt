@@ -4,7 +4,7 @@ use Rattle.std.specs.List.{list_all, list_any, filter_map}
 use Rattle.std.specs.Result.{result_ok}
 use Rattle.std.specs.declared.alloc.Global.{Global}
 use Rattle.pkg_name.specs.Name.{NameParts}
-use Rattle.pkg_spec.specs.Admitting.{meeting, having, lacking, set_of_alternative}
+use Rattle.pkg_spec.specs.NameSet.{meeting, having, lacking_flavor, set_of_alternative}
 use Rattle.pkg_spec.specs.Alternatives.{ComparisonValue, AlternativeValue, alternative_of, is_refused}
 use Rattle.pkg_spec.specs.declared.comparisons.Comparison.{Comparison}
 use Rattle.pkg_spec.specs.declared.alternatives.Alternative.{Alternative}
@@ -35,7 +35,7 @@ has_all wanted name = list_all (λ flavor. having (string_bytes flavor) name) wa
 
 -- a name has none of these flavors
 abbrev pub has_none : List (String Global) → NameParts → Bool
-has_none forbidden name = list_all (λ flavor. lacking (string_bytes flavor) name) forbidden
+has_none forbidden name = list_all (λ flavor. lacking_flavor (string_bytes flavor) name) forbidden
 
 -- a name has the flavors that an alternative wants, and none that it forbids
 abbrev pub admits_flavors : Alternative → NameParts → Bool

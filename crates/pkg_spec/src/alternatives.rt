@@ -7,9 +7,9 @@ ghost use Rattle.std.specs.String.{string_bytes};
 ghost use Rattle.pkg_spec.specs.Alternatives.{alternative_of, at_versions, begins_versions, forbids, has_name};
 ghost use Rattle.pkg_spec.specs.Alternatives.{wanted_among, forbidden_among};
 ghost use Rattle.text_parts.specs.Cuts.{now_all};
-ghost use Rattle.pkg_spec.specs.Admitting.{set_of_alternative, with_stem, having};
+ghost use Rattle.pkg_spec.specs.NameSet.{set_of_alternative, with_stem, having};
 ghost use Rattle.pkg_spec.specs.Seen.{meets_comparisons, has_all, has_none};
-ghost use Rattle.pkg_spec.specs.Giving.{ReadsAlternative, RefusesAs, GivesCut, GivesFlavors, GivesForbidden};
+ghost use Rattle.pkg_spec.specs.ReadResults.{ReadsAlternative, RefusesAs, GivesCut, GivesFlavors, GivesForbidden};
 
 use crate::comparisons::{Comparison, read_versions};
 use crate::faults::SpecFault;

@@ -2,9 +2,9 @@
 ghost use Rattle.std.specs.Prelude.{◌≡◌};
 ghost use Rattle.pkg_name.specs.Order.{version_cmp};
 ghost use Rattle.pkg_spec.specs.Alternatives.{signed, versions_of, comparisons_in};
-ghost use Rattle.pkg_spec.specs.Admitting.{holds};
+ghost use Rattle.pkg_spec.specs.NameSet.{allows_ordering};
 ghost use Rattle.text_parts.specs.Cuts.{now_all};
-ghost use Rattle.pkg_spec.specs.Giving.{ReadsComparison, ReadsComparisons};
+ghost use Rattle.pkg_spec.specs.ReadResults.{ReadsComparison, ReadsComparisons};
 
 use pkg_name::{Version, VersionFault};
 use std::alloc::{AllocError, Global};
@@ -48,7 +48,7 @@ impl Comparison {
 
     /// Whether a version meets the comparison.
     pub(crate) fn holds(&self, version: &Version) -> bool
-        ensures { result ≡ holds self.now.sign (version_cmp version.now self.now.version) }
+        ensures { result ≡ allows_ordering self.now.sign (version_cmp version.now self.now.version) }
     {
         match self.sign {
             ComparisonSign::Below => *version < self.version,

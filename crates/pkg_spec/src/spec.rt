@@ -2,11 +2,12 @@
 ghost use Rattle.std.specs.Prelude.{◌≡◌, ◌==◌, ◌++◌, ◌||◌, IfOk, IsErrOf, Some, IsOk, map, option_to_list};
 ghost use Rattle.std.specs.List.{slice_split, filter_map, list_any};
 ghost use Rattle.std.specs.Result.{result_ok};
-ghost use Rattle.pkg_spec.specs.Alternatives.{spec_of, bar};
+ghost use Rattle.pkg_spec.specs.Alternatives.{spec_of};
+ghost use Rattle.general_facts.specs.Ascii.{bar};
 ghost use Rattle.text_parts.specs.Cuts.{now_all};
 ghost use Rattle.pkg_spec.specs.Seen.{one_admits, ReadsParts};
-ghost use Rattle.pkg_spec.specs.Giving.{RefusesAs, AddsIfRead, NotesRefusal};
-ghost use Rattle.pkg_spec.specs.Admitting.{admitted_by};
+ghost use Rattle.pkg_spec.specs.ReadResults.{RefusesAs, AddsIfRead, NotesRefusal};
+ghost use Rattle.pkg_spec.specs.NameSet.{admitted_by};
 
 use crate::alternatives::Alternative;
 use crate::faults::SpecFault;
@@ -30,7 +31,7 @@ pub struct Spec {
 impl Model for Spec {
     ghost use Rattle.std.specs.Prelude.{List, ℕ, map};
     ghost use Rattle.std.specs.String.{string_bytes};
-    ghost use Rattle.pkg_spec.specs.Admitting.{IsSpec};
+    ghost use Rattle.pkg_spec.specs.NameSet.{IsSpec};
     ghost use Rattle.pkg_spec.specs.Seen.{alternative_seen};
 
     ghost Value = { List ℕ };

@@ -4,11 +4,11 @@ use Rattle.std.proofs.lemmas.Slice.Eq.{bytes_eq-Decides}
 use Rattle.std.specs.Str.{bytes_eq}
 use Rattle.mk_paths.specs.World.{World}
 use Rattle.ports_index.specs.PathOutcomes.{PathOutcome, outcome_at}
-use Rattle.ports_index.specs.Filling.{is_one_of, Fills}
+use Rattle.ports_index.specs.FilledRows.{is_one_of, Fills}
 use Rattle.ports_index.specs.RowLaws.{SayAll}
 use Rattle.ports_index.specs.Seen.{known_row}
 use Rattle.ports_index.proofs.Filled.{Entries, one_of-append}
-use Rattle.plain_reference.specs.Right.{AreRight, Stay}
+use Rattle.plain_reference.specs.Right.{AreOutcomes, Stay}
 
 pub Stay-on : (first middle last : Entries) → Stay first middle → Stay middle last → Stay first last
 Stay-on first middle last one more = record { stay = λ path row is. more.stay path row (one.stay path row is) }
@@ -45,7 +45,7 @@ module _ (world : World) where
   pub say-filled : (paths : List (List ℕ)) (old new : Entries) → Fills world paths old new → SayAll world new paths
   say-filled paths old new fills path is = ap known_row (fills.filled path ∙ ap (λ b. if b then Some (outcome_at world path) else old path) is)
 
-module _ (world : World) (entries : Entries) (right : AreRight world entries) (path : List ℕ) where
+module _ (world : World) (entries : Entries) (right : AreOutcomes world entries) (path : List ℕ) where
   -- a path that is given its row
   module _ (new : Entries) (row : PathOutcome) (is : row ≡ outcome_at world path) (put : (other : List ℕ) → new other ≡ (if bytes_eq path other then Some row else entries other)) where
     right-at : (other : List ℕ) (same : Bool) → bytes_eq path other ≡ same → (found : PathOutcome) → new other ≡ Some found → found ≡ outcome_at world other
@@ -55,5 +55,5 @@ module _ (world : World) (entries : Entries) (right : AreRight world entries) (p
         the_row ∙ is ∙ ap (outcome_at world) ((bytes_eq-Decides path other).0 same)
     right-at other false same found e = right other found (sym (put other ∙ ap (λ b. if b then Some row else entries other) same) ∙ e)
 
-    pub AreRight-put : AreRight world new
+    pub AreRight-put : AreOutcomes world new
     AreRight-put other found e = right-at other (bytes_eq path other) refl found e

@@ -1,9 +1,9 @@
 -- What work leaves of the files, one piece after another.
 use Rattle.std.proofs.Common.{◌≡◌, ◌∙◌, ◌+◌, ◌-◌, ◌^◌, min, ap, inl, inr, Option, Some, None}
 use Rattle.mk_paths.specs.FilesView.{FilesView}
-use Rattle.mk_paths.specs.declared.asking.FilesFault.{FilesFault}
-use Rattle.mk_paths.specs.declared.asking.FilesFault.TheVariants as faults
-use Rattle.ports_index.specs.Keeping.{Counts, Keeps}
+use Rattle.mk_paths.specs.declared.files.FilesFault.{FilesFault}
+use Rattle.mk_paths.specs.declared.files.FilesFault.TheVariants as faults
+use Rattle.ports_index.specs.KeptFiles.{Counts, KeepsFiles}
 
 counts : (fault : Option FilesFault) (first middle last : FilesView) → middle.failures ≡ first.failures → Counts fault middle last → Counts fault first last
 counts None first middle last same more = more ∙ same
@@ -12,5 +12,5 @@ counts (Some (faults.Memory _)) first middle last same more =
     elim more [ inl e ↦ inl (e ∙ same) | inr e ↦ inr (e ∙ ap (λ n. min (n + 1) (2 ^ 64 - 1)) same) ]
 
 -- work that went well, and then more
-pub Keeps-on : (fault : Option FilesFault) (first middle last : FilesView) → Keeps None first middle → Keeps fault middle last → Keeps fault first last
-Keeps-on fault first middle last one more = record { files = more.files ∙ one.files; failures = counts fault first middle last one.failures more.failures }
+pub KeepsFiles-on : (fault : Option FilesFault) (first middle last : FilesView) → KeepsFiles None first middle → KeepsFiles fault middle last → KeepsFiles fault first last
+KeepsFiles-on fault first middle last one more = record { files = more.files ∙ one.files; failures = counts fault first middle last one.failures more.failures }

@@ -4,8 +4,8 @@ use Rattle.mk_paths.specs.World.{World}
 use Rattle.ports_index.specs.PathOutcomes.{PathOutcome, outcome_at}
 
 -- each row says what its path leads to
-abbrev pub AreRight : World → (List ℕ → Option PathOutcome) → Type 0
-AreRight world entries = (path : List ℕ) (row : PathOutcome) → entries path ≡ Some row → row ≡ outcome_at world path
+abbrev pub AreOutcomes : World → (List ℕ → Option PathOutcome) → Type 0
+AreOutcomes world entries = (path : List ℕ) (row : PathOutcome) → entries path ≡ Some row → row ≡ outcome_at world path
 
 -- each row that was there is still there
 pub record Stay (old new : List ℕ → Option PathOutcome) : Type 0 where

@@ -1,10 +1,9 @@
 //! The paths beside the listed ones on which an index depends.
-ghost use Rattle.std.specs.Prelude.{◌≡◌, ◌++◌, map, string_bytes, IfOk, OnOk, option_map, option_to_list};
+ghost use Rattle.std.specs.Prelude.{◌≡◌, map, string_bytes, IfOk, OnOk, option_map};
 ghost use Rattle.std.specs.List.{filter_map};
-ghost use Rattle.ports_index.specs.Depending.{target_by, targets_in};
-ghost use Rattle.ports_index.specs.Index.{needed_among};
-ghost use Rattle.ports_index.specs.Seen.{known_in, known_row, entries_in, row_seen};
-ghost use Rattle.plain_reference.specs.Needed.{needed_with};
+ghost use Rattle.ports_index.specs.Dependencies.{target_by, targets_in};
+ghost use Rattle.ports_index.specs.Seen.{AddsPath, AddsTexts, entries_in, row_says};
+ghost use Rattle.plain_reference.specs.Needed.{GivesBeside};
 
 use port_deps::read_wanted;
 use port_rules::Depend;
@@ -18,8 +17,7 @@ pub(crate) fn paths_beside(
     listed: &[String],
     rows: &MemoryRows,
 ) -> Result<Vec<String>, AllocError>
-    ensures { IfOk result (λ beside. needed_with (map string_bytes listed.now) (map string_bytes beside.items)
-        ≡ needed_among (known_in (entries_in rows.now)) (map string_bytes listed.now)) }
+    ensures { GivesBeside result (map string_bytes listed.now) (entries_in rows.now) }
 {
     let mut beside = Vec::new(alloc);
     let mut finder = rows.finder();
@@ -32,8 +30,7 @@ pub(crate) fn paths_beside(
 // Adds the paths that the items of the port in this row name, without subpackages. Without a row, or if the row is no port,
 // it adds none.
 fn add_targets(alloc: Global, paths: &mut Vec<String>, row: Option<&Row>) -> Result<(), AllocError>
-    ensures { OnOk result (map string_bytes paths.new.items ≡ map string_bytes paths.old.items
-        ++ targets_in (known_row (option_map (λ row. row_seen row.now) row.entry))) }
+    ensures { OnOk result (AddsTexts (targets_in (row_says row.entry)) paths.old paths.new) }
 {
     match row {
         Some(Row::Port(port)) => add_named(alloc, paths, port.depends()),
@@ -43,8 +40,7 @@ fn add_targets(alloc: Global, paths: &mut Vec<String>, row: Option<&Row>) -> Res
 
 // Adds the paths that the items of these dependencies name, without subpackages.
 fn add_named(alloc: Global, paths: &mut Vec<String>, depends: &[Depend]) -> Result<(), AllocError>
-    ensures { OnOk result (map string_bytes paths.new.items ≡ map string_bytes paths.old.items
-        ++ filter_map target_by depends.now) }
+    ensures { OnOk result (AddsTexts (filter_map target_by depends.now) paths.old paths.new) }
 {
     for depend in depends {
         add_target(alloc, paths, depend)?;
@@ -54,8 +50,7 @@ fn add_named(alloc: Global, paths: &mut Vec<String>, depends: &[Depend]) -> Resu
 
 // Adds the path that the item of a dependency names, without a subpackage, if the item can be read.
 fn add_target(alloc: Global, paths: &mut Vec<String>, depend: &Depend) -> Result<(), AllocError>
-    ensures { OnOk result (map string_bytes paths.new.items ≡ map string_bytes paths.old.items
-        ++ option_to_list (target_by depend.now)) }
+    ensures { OnOk result (AddsPath (target_by depend.now) paths.old paths.new) }
 {
     if let Some(target) = target_of(alloc, depend)? {
         paths.push(target)?;

@@ -2,14 +2,14 @@
 //! once, each makefile once for each choice of flavors, and nothing is kept.
 #![tactic(auto)]
 
-mod answering;
+mod answers;
 mod beside;
 mod effort;
-mod evaluating;
-mod filling;
-mod indexing;
+mod filled_rows;
+mod index;
+mod path_outcomes;
 
-pub use answering::{answer, effort_for};
+pub use answers::{answer, effort_for};
 pub use effort::Effort;
-pub use evaluating::evaluate_path;
-pub use indexing::{Index, index_files};
+pub use index::{Index, index_files};
+pub use path_outcomes::evaluate_path;

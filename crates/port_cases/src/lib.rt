@@ -1,12 +1,13 @@
 //! Cases of ports: their records, the index of all of them, and questions about it.
 #![tactic(auto)]
 
-mod asking;
+mod asks;
 mod dependencies;
-mod looking;
+mod given;
+mod index_look;
 mod paths;
 mod records;
-mod refreshing;
+mod refreshes;
 mod told_turns;
 
 use case_lines::{Answer, Trouble};
@@ -28,13 +29,13 @@ pub fn answer(
         "finding" => paths::path_answer(alloc, world, given),
         "finding failing" => paths::finding_failing(alloc, world, given),
         "agrees" => paths::agrees_answer(alloc, world, given),
-        "asked" => asking::asked_answer(alloc, world, given),
-        "asked by" => asking::asked_by_turns(alloc, world, given),
-        "refreshed by" => refreshing::refreshed_answer(alloc, world, given),
-        "put away by" => refreshing::put_away_answer(alloc, world, given),
-        "refreshed failing by" => refreshing::refreshed_failing(alloc, world, given),
-        "refreshed stopped by" => refreshing::refreshed_stopped(alloc, world, given),
-        "look failing" => looking::look_failing(alloc, world, given),
+        "asked" => asks::asked_answer(alloc, world, given),
+        "asked by" => asks::asked_by_turns(alloc, world, given),
+        "refreshed by" => refreshes::refreshed_answer(alloc, world, given),
+        "put away by" => refreshes::put_away_answer(alloc, world, given),
+        "refreshed failing by" => refreshes::refreshed_failing(alloc, world, given),
+        "refreshed stopped by" => refreshes::refreshed_stopped(alloc, world, given),
+        "look failing" => index_look::look_failing(alloc, world, given),
         "items" => dependencies::items_answer(alloc, world),
         "statuses" => dependencies::statuses(alloc, world, given),
         "first" | "to" | "reached" | "reaching" => {

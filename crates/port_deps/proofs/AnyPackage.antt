@@ -5,9 +5,9 @@ use Rattle.std.proofs.lemmas.List.{nil_from_length}
 use Rattle.pkg_name.specs.Name.{NameParts}
 use Rattle.pkg_path.specs.Paths.{PathValue, path_if_one}
 use Rattle.pkg_spec.specs.Alternatives.{spec_of, alternative_of}
-use Rattle.pkg_spec.specs.Admitting.{admitted_by}
+use Rattle.pkg_spec.specs.NameSet.{admitted_by}
 use Rattle.text_parts.specs.Cuts.{cut_where}
-use Rattle.port_deps.specs.Reading.{WantedValue, at_sign, spec_text, spec_if_one, wanted_by, wanted_in}
+use Rattle.port_deps.specs.ItemText.{WantedValue, at_sign, spec_text, spec_if_one, wanted_by, wanted_in}
 
 pub any-admitted : (name : NameParts) → admitted_by (codes "STEM-*") name ≡ true
 unfolding spec_of alternative_of cut_where

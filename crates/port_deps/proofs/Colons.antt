@@ -5,7 +5,7 @@ use Rattle.std.proofs.lemmas.List.Splits.{slice_split_none, slice_split_first, s
 use Rattle.std.proofs.lemmas.List.Sums.{fails_before_first, position_or_len_is}
 use Rattle.std.proofs.lemmas.Str.{IsUtf8-drop, IsCharBoundary-after_ascii}
 use Rattle.std.specs.List.{prefix_len, position_or_len, before_first, after_first, onto_first}
-use Rattle.port_deps.specs.Reading.{cut_at_colons, parts_of, after_empty, named_parts}
+use Rattle.port_deps.specs.ItemText.{cut_at_colons, parts_of_item, after_empty, named_parts}
 use Rattle.port_deps.specs.Seen.{BeginsWithNoColon}
 
 abbrev pub is_colon : ℕ → Bool
@@ -16,11 +16,11 @@ abbrev empty_first : List (List ℕ) → ℕ
 empty_first parts = prefix_len (λ part. length part == 0) parts
 
 -- a colon that comes first leaves no part
-pub behind-colon : (text rest : List ℕ) → text ≡ 58 ∷ rest → parts_of rest ≡ parts_of text
+pub behind-colon : (text rest : List ℕ) → text ≡ 58 ∷ rest → parts_of_item rest ≡ parts_of_item text
 behind-colon text rest is =
     let parts = cut_at_colons rest in
     let one_more : 1 + empty_first parts ≡ suc (empty_first parts) = omega arith in
-    sym (ap parts_of is ∙ ap (λ count. drop count ([] ∷ parts)) one_more)
+    sym (ap parts_of_item is ∙ ap (λ count. drop count ([] ∷ parts)) one_more)
 
 -- what follows it is text
 pub behind-utf8 : (text rest : List ℕ) → IsUtf8 text → text ≡ 58 ∷ rest → IsUtf8 rest
@@ -47,14 +47,14 @@ first_stays_by byte (first ∷ others) some =
 some_part : (text : List ℕ) → length (cut_at_colons text) ≢ 0
 some_part text none = let count = length-slice_split is_colon text in absurd (omega (arith, count, none))
 
-kept_by : (byte : ℕ) (rest : List ℕ) (b : Bool) → (byte == 58) ≡ b → BeginsWithNoColon (byte ∷ rest) → parts_of (byte ∷ rest) ≡ cut_at_colons (byte ∷ rest)
+kept_by : (byte : ℕ) (rest : List ℕ) (b : Bool) → (byte == 58) ≡ b → BeginsWithNoColon (byte ∷ rest) → parts_of_item (byte ∷ rest) ≡ cut_at_colons (byte ∷ rest)
 kept_by byte rest true is begins = absurd (begins rest (ap (λ byte. byte ∷ rest) (eqb-true byte 58 is)))
 kept_by byte rest false is begins =
     let parts = slice_split-cons_no is_colon byte rest is in
     ap after_empty parts ∙ first_stays_by byte (cut_at_colons rest) (some_part rest) ∙ sym parts
 
 -- without a colon that comes first no part is dropped
-pub all_kept : (text : List ℕ) → (length text == 0) ≡ false → BeginsWithNoColon text → parts_of text ≡ cut_at_colons text
+pub all_kept : (text : List ℕ) → (length text == 0) ≡ false → BeginsWithNoColon text → parts_of_item text ≡ cut_at_colons text
 all_kept [] some begins = absurd (false≢true (sym some))
 all_kept (byte ∷ rest) some begins = kept_by byte rest (byte == 58) refl begins
 

@@ -8,9 +8,11 @@ use Rattle.std.specs.Option.{option_and_then}
 use Rattle.std.specs.Prelude.{position}
 use Rattle.text_parts.specs.Laws.{is_between}
 use Rattle.text_parts.proofs.PartTexts.{parts_are_between}
-use Rattle.pkg_path.specs.Paths.{PathValue, canonical, comma, elements_of, path_if_one, path_of, port_path, value_of}
+use Rattle.pkg_path.specs.Paths.{PathValue, canonical, elements_of, path_if_one, path_of, port_path, value_of}
+use Rattle.general_facts.specs.Ascii.{comma}
 use Rattle.pkg_path.specs.declared.faults.PkgPathFault.TheVariants.{Empty, TwoSubpackages, BadCharacter}
-use Rattle.port_deps.specs.Reading.{NamesPlainPath, PartsValue, WantedValue, at_sign, colon, cut_at_colons, cut_before, has_comma, is_sign, is_spec, named_parts, parts_of, spec_if_one, spec_text, wanted_by, wanted_in}
+use Rattle.port_deps.specs.ItemText.{NamesPlainPath, PartsValue, WantedValue, at_sign, cut_at_colons, cut_at_place, has_comma, is_sign, is_spec, named_parts, parts_of_item, spec_if_one, spec_text, wanted_by, wanted_in}
+use Rattle.general_facts.specs.Ascii.{colon}
 
 abbrev is_comma : ℕ → Bool
 is_comma byte = byte == comma
@@ -48,7 +50,7 @@ plain-drop zero parts e = e
 plain-drop (suc n) [] e = refl
 plain-drop (suc n) (part ∷ parts) e = plain-drop n parts (and_parts (is_plain part) (list_all is_plain parts) e).1
 
-plain-parts : (item : List ℕ) → has_comma item ≡ false → list_all is_plain (parts_of item) ≡ true
+plain-parts : (item : List ℕ) → has_comma item ≡ false → list_all is_plain (parts_of_item item) ≡ true
 plain-parts item none =
     plain-drop (prefix_len (λ part. length part == 0) (cut_at_colons item)) (cut_at_colons item)
     (parts_are_between colon is_apart item (all-apart item none))
@@ -108,7 +110,7 @@ none-take zero text none = refl
 none-take (suc n) [] none = refl
 none-take (suc n) (byte ∷ text) none = take_by n text (is_comma byte) none (none-take n text)
 
-none-before : (text : List ℕ) (at : Option ℕ) → has_comma text ≡ false → has_comma (cut_before text at).before ≡ false
+none-before : (text : List ℕ) (at : Option ℕ) → has_comma text ≡ false → has_comma (cut_at_place text at).before ≡ false
 none-before text None none = none
 none-before text (Some at) none = none-take at text none
 
@@ -131,4 +133,4 @@ in_parts (Some parts) plain =
     at_spec cut.before (spec_text parts.spec cut.behind) (none-before parts.path (position is_sign parts.path) (none-plain parts.path plain))
 
 pub plain-item : (item : List ℕ) → has_comma item ≡ false → NamesPlainPath item
-plain-item item none = in_parts (named_parts (parts_of item)) (named-plain (parts_of item) (plain-parts item none))
+plain-item item none = in_parts (named_parts (parts_of_item item)) (named-plain (parts_of_item item) (plain-parts item none))

@@ -4,7 +4,7 @@ use Rattle.std.proofs.lemmas.Bool.{or_cases, eqb-true}
 use Rattle.std.proofs.lemmas.List.Quantifiers.{position-Some}
 use Rattle.std.proofs.lemmas.Str.{IsCharBoundary-before_ascii}
 use Rattle.std.specs.List.{position}
-use Rattle.port_deps.specs.Reading.{is_sign}
+use Rattle.port_deps.specs.ItemText.{is_sign}
 
 is_ascii : (byte : ℕ) → is_sign byte ≡ true → byte < 128
 is_ascii byte is =

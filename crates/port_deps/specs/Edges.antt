@@ -16,8 +16,8 @@ pub record EdgeValue : Type 0 where
   pub status : Status
 
 -- the path that an item names
-abbrev pub target_of : Option WantedValue → Option PathValue
-target_of wanted = option_map (λ (wanted : WantedValue). wanted.path) wanted
+abbrev pub wanted_path : Option WantedValue → Option PathValue
+wanted_path wanted = option_map (λ (wanted : WantedValue). wanted.path) wanted
 
 -- the dependency that an item is, by what is found at its path
 abbrev pub edge_of : ItemValue → FoundValue → EdgeValue
@@ -25,6 +25,6 @@ edge_of item found = record {
   kind = item.kind;
   subpackage = item.subpackage;
   item = item.text;
-  target = target_of item.wanted;
+  target = wanted_path item.wanted;
   status = status_of item.wanted found;
 }

@@ -2,7 +2,7 @@
 use Rattle.std.specs.Prelude.{ℕ, List, Option}
 use Rattle.port_rules.specs.declared.depends.DependKind.{DependKind}
 use Rattle.port_rules.specs.Depends.{DependValue}
-pub use Rattle.port_deps.specs.Reading.{WantedValue, wanted_of}
+pub use Rattle.port_deps.specs.ItemText.{WantedValue, wanted_of}
 
 -- an item: what it is for, which package needs it, how it is written, and what it asks for, if
 -- it can be read

@@ -1,4 +1,4 @@
-pub mod Reading
+pub mod ItemText
 pub mod Items
 pub mod Statuses
 pub mod Edges

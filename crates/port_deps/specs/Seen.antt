@@ -1,10 +1,11 @@
 -- How the definitions see the types and the texts of the code.
 use Rattle.std.specs.Prelude.{◌≢◌, ℕ, List, ◌∷◌}
 use Rattle.std.specs.Option.{option_copied}
-use Rattle.port_deps.specs.Reading.{PartsValue, colon}
+use Rattle.port_deps.specs.ItemText.{PartsValue}
+use Rattle.general_facts.specs.Ascii.{colon}
 use Rattle.port_deps.specs.Statuses.{FoundValue}
 use Rattle.port_deps.specs.Statuses as found
-use Rattle.port_deps.specs.declared.reading.Parts.{Parts}
+use Rattle.port_deps.specs.declared.item_text.Parts.{Parts}
 use Rattle.port_deps.specs.declared.statuses.Found.{Found}
 use Rattle.port_deps.specs.declared.statuses.Found.TheVariants.{NotThere, Faulted, NotPort, Port}
 

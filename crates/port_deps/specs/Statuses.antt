@@ -4,10 +4,10 @@ use Rattle.std.specs.Prelude.{ℕ, if◌then◌else◌, List, [], ◌∷◌, Opt
 use Rattle.std.specs.Str.{bytes_eq}
 use Rattle.mk_base.specs.declared.faults.FaultKind.{FaultKind}
 use Rattle.mk_base.specs.declared.faults.FaultKind.TheVariants as kinds
-use Rattle.pkg_spec.specs.Admitting.{admitted_by}
+use Rattle.pkg_spec.specs.NameSet.{admitted_by}
 use Rattle.port_rules.specs.Ports.{PortValue}
 use Rattle.port_rules.specs.Packages.{PackageValue}
-use Rattle.port_deps.specs.Reading.{WantedValue}
+use Rattle.port_deps.specs.ItemText.{WantedValue}
 use Rattle.port_deps.specs.declared.statuses.Status.{Status}
 use Rattle.port_deps.specs.declared.statuses.Status.TheVariants as statuses
 
@@ -20,14 +20,14 @@ pub data FoundValue : Type 0 where
   Port : PortValue → FoundValue
 
 -- the word that names a status
-abbrev pub word_of : Status → List ℕ
-word_of statuses.BadItem = codes "BadItem"
-word_of statuses.NoPort = codes "NoPort"
-word_of statuses.BadFlavor = codes "BadFlavor"
-word_of statuses.Unevaluated = codes "Unevaluated"
-word_of statuses.NoSubpackage = codes "NoSubpackage"
-word_of statuses.SpecMismatch = codes "SpecMismatch"
-word_of statuses.Ok = codes "Ok"
+abbrev pub word_of_status : Status → List ℕ
+word_of_status statuses.BadItem = codes "BadItem"
+word_of_status statuses.NoPort = codes "NoPort"
+word_of_status statuses.BadFlavor = codes "BadFlavor"
+word_of_status statuses.Unevaluated = codes "Unevaluated"
+word_of_status statuses.NoSubpackage = codes "NoSubpackage"
+word_of_status statuses.SpecMismatch = codes "SpecMismatch"
+word_of_status statuses.Ok = codes "Ok"
 
 -- the package of this name
 abbrev pub package_named : List PackageValue → List ℕ → Option PackageValue

@@ -4,8 +4,8 @@ ghost use Rattle.std.specs.Option.{option_copied};
 ghost use Rattle.port_deps.specs.Edges as edges;
 ghost use Rattle.port_deps.specs.Seen.{found_seen};
 
+use crate::item::{Item, Wanted};
 use crate::statuses::{Found, Status, status_of};
-use crate::wanting::{Item, Wanted};
 use pkg_path::PkgPath;
 use port_rules::DependKind;
 use std::marker::Model;
@@ -103,7 +103,7 @@ pub fn resolve(item: Item, found: Found<'_>) -> Edge
 
 /// The path that an item names.
 fn target_of(wanted: Option<Wanted>) -> Option<PkgPath>
-    ensures { result ≡ edges.target_of wanted }
+    ensures { result ≡ edges.wanted_path wanted }
 {
     match wanted {
         Some(wanted) => Some(wanted.into_path()),

@@ -3,13 +3,13 @@
 #![tactic(auto)]
 
 mod edges;
+mod item;
+mod item_text;
 mod lists;
-mod reading;
 mod statuses;
-mod wanting;
 
 pub use edges::{Edge, resolve};
+pub use item::{Item, Wanted, items};
+pub use item_text::{has_comma, read_wanted};
 pub use lists::{Root, RootEdge};
-pub use reading::{has_comma, read_wanted};
 pub use statuses::{Found, Status};
-pub use wanting::{Item, Wanted, items};

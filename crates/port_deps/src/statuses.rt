@@ -6,7 +6,7 @@ ghost use Rattle.port_deps.specs.Statuses as statuses;
 ghost use Rattle.port_deps.specs.Seen.{found_seen};
 ghost use Rattle.port_rules.specs.Packages.{PackageValue};
 
-use crate::wanting::Wanted;
+use crate::item::Wanted;
 use mk_base::FaultKind;
 use port_rules::{Package, PortRecord};
 
@@ -45,7 +45,7 @@ pub enum Status {
 impl Status {
     /// The word for it: the name of the variant.
     pub fn as_str(self) -> &'static str
-        ensures { result.now ≡ statuses.word_of self }
+        ensures { result.now ≡ statuses.word_of_status self }
     {
         match self {
             Status::BadItem => "BadItem",

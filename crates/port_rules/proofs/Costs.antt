@@ -2,7 +2,7 @@
 use Rattle.std.proofs.Common.{◌≡◌, ◌≤◌, ℕ, List, [], ◌∷◌, Option, Some, None, is_some, Result, Ok, Err, refl, sym, subst, arith, codes}
 use Rattle.mk_base.specs.declared.faults.FaultKind.{FaultKind}
 use Rattle.mk_base.specs.declared.faults.FaultKind.TheVariants as kinds
-use Rattle.mk_base.specs.declared.metering.TheConstants.{UNITS}
+use Rattle.mk_base.specs.declared.budget.TheConstants.{UNITS}
 use Rattle.mk_base.specs.Meter.{Meter, full}
 use Rattle.mk_base.specs.Outcome.{Work, left}
 use Rattle.mk_env.specs.Texts.{Variables, text_in}
@@ -10,7 +10,7 @@ use Rattle.mk_eval.proofs.Steady.{Steady, steady-give, steady-fail, bind, either
 use Rattle.mk_eval.proofs.SteadyTexts.{steady-variable}
 use Rattle.pkg_name.specs.Name.{NameParts, split_name}
 use Rattle.port_rules.specs.Depends.{DependValue, add_depends, depends_of}
-use Rattle.port_rules.specs.Flavors.{FlavorsValue, flavors_of, has_chosen, known, make_flavors}
+use Rattle.port_rules.specs.Flavors.{FlavorsValue, flavors_read, has_chosen, checked_flavors, make_flavors}
 use Rattle.port_rules.specs.Packages.{are_subpackages, default_name, full_name, made_name, name_from}
 use Rattle.port_rules.specs.Packages.{package_base, package_of, packages_of, present, readable, subpackages_of}
 use Rattle.port_rules.specs.Ports.{PortValue, port_of}
@@ -54,11 +54,11 @@ steady-package_words : (variables : Variables) (name subpackage : List ℕ) → 
 unfolding package_words
 steady-package_words variables name subpackage = bind (steady-package_value variables name subpackage) (λ found. steady-give _)
 
-steady-known : (flavors : FlavorsValue) → Steady (known flavors)
+steady-known : (flavors : FlavorsValue) → Steady (checked_flavors flavors)
 steady-known flavors = either (has_chosen flavors) (steady-give flavors) (steady-fail kinds.Flavor)
 
-steady-flavors_of : (variables : Variables) → Steady (flavors_of variables)
-unfolding flavors_of
+steady-flavors_of : (variables : Variables) → Steady (flavors_read variables)
+unfolding flavors_read
 steady-flavors_of variables =
     bind (steady-lowercase_words variables (codes "FLAVOR")) (λ chosen. bind (steady-lowercase_words variables (codes "FLAVORS"))
     (λ proper. bind (steady-lowercase_words variables (codes "PSEUDO_FLAVORS"))

@@ -3,9 +3,9 @@ use Rattle.std.proofs.Common.{◌≡◌, ◌∙◌, ◌<◌, ◌≤◌, ◌+◌,
 use Rattle.std.proofs.lemmas.List.{drop_all}
 use Rattle.mk_base.specs.Outcome.{Work, after, each}
 use Rattle.mk_base.specs.Each.{each-value, each-stop}
-use Rattle.mk_base.specs.Stopping.{StopsPurelyAt, GivesPurely, StopsPurelyAt-whole}
-use Rattle.mk_base.specs.declared.stopping.PureStop.{PureStop}
-use Rattle.mk_base.specs.declared.stopping.PureStop.TheVariants as pure
+use Rattle.mk_base.specs.Stops.{StopsPurelyAt, GivesPurely, StopsPurelyAt-whole}
+use Rattle.mk_base.specs.declared.stops.PureStop.{PureStop}
+use Rattle.mk_base.specs.declared.stops.PureStop.TheVariants as pure
 
 -- where a part stops that comes first, so does the whole
 pub stops-too : {A B F M : Type 0} (stop : PureStop F) (state : M) (part : Result (B × M) (F × M)) (next : B → Work M F A) → StopsPurelyAt stop state part → StopsPurelyAt stop state (after part next)

@@ -5,8 +5,8 @@ use Rattle.std.specs.Global.{Global}
 use Rattle.mk_base.specs.declared.faults.FaultKind.{FaultKind}
 use Rattle.mk_base.specs.Meter.{Meter}
 use Rattle.mk_base.specs.Outcome.{Work, give, each, ◌>>=◌}
-use Rattle.mk_base.specs.Stopping.{GivesPurely}
-use Rattle.mk_base.specs.declared.stopping.PureStop.{PureStop}
+use Rattle.mk_base.specs.Stops.{GivesPurely}
+use Rattle.mk_base.specs.declared.stops.PureStop.{PureStop}
 use Rattle.mk_env.specs.Texts.{Variables}
 use Rattle.port_rules.specs.declared.depends.DependKind.{DependKind}
 use Rattle.port_rules.specs.declared.depends.DependKind.TheVariants.{Build, Lib, Run, Test}
@@ -24,11 +24,11 @@ abbrev pub make_depend : DependKind → List ℕ → List ℕ → DependValue
 make_depend kind subpackage item = record { kind = kind; subpackage = subpackage; item = item }
 
 -- the word that names a kind
-abbrev pub word_of : DependKind → List ℕ
-word_of Build = codes "build"
-word_of Lib = codes "lib"
-word_of Run = codes "run"
-word_of Test = codes "test"
+abbrev pub word_of_kind : DependKind → List ℕ
+word_of_kind Build = codes "build"
+word_of_kind Lib = codes "lib"
+word_of_kind Run = codes "run"
+word_of_kind Test = codes "test"
 
 -- dependencies of one kind
 abbrev pub depends : DependKind → List ℕ → List (List ℕ) → List DependValue

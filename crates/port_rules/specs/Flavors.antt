@@ -32,16 +32,16 @@ abbrev pub has_chosen : FlavorsValue → Bool
 has_chosen flavors = list_all (λ flavor. is_among flavor flavors.proper || is_among flavor flavors.pseudo) flavors.chosen
 
 -- the same flavors if that is so; otherwise it is a fault
-abbrev pub known : FlavorsValue → Work Meter FaultKind FlavorsValue
-known flavors = if has_chosen flavors then give flavors else fail kinds.Flavor
+abbrev pub checked_flavors : FlavorsValue → Work Meter FaultKind FlavorsValue
+checked_flavors flavors = if has_chosen flavors then give flavors else fail kinds.Flavor
 
-unfoldable pub flavors_of : Variables → Work Meter FaultKind FlavorsValue
-flavors_of variables m =
+unfoldable pub flavors_read : Variables → Work Meter FaultKind FlavorsValue
+flavors_read variables m =
     (lowercase_words variables (codes "FLAVOR") >>= λ chosen. lowercase_words variables (codes "FLAVORS")
     >>= λ proper. lowercase_words variables (codes "PSEUDO_FLAVORS")
-    >>= λ pseudo. known (make_flavors chosen proper pseudo)) m
+    >>= λ pseudo. checked_flavors (make_flavors chosen proper pseudo)) m
 
 -- the marks of flavors in a package's name: those of the port's proper flavors that are chosen, in the
 -- order of FLAVORS
-abbrev pub marks_of : FlavorsValue → List (List ℕ)
-marks_of flavors = filter (λ flavor. is_among flavor flavors.chosen) flavors.proper
+abbrev pub flavor_marks : FlavorsValue → List (List ℕ)
+flavor_marks flavors = filter (λ flavor. is_among flavor flavors.chosen) flavors.proper

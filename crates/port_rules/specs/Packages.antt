@@ -7,18 +7,19 @@ use Rattle.std.specs.Borrow.{Bor}
 use Rattle.std.specs.Global.{Global}
 use Rattle.std.specs.List.{list_all}
 use Rattle.std.specs.Str.{bytes_eq}
+use Rattle.general_facts.specs.Ascii.{small_p, small_v}
 use Rattle.mk_base.specs.declared.faults.FaultKind.{FaultKind}
 use Rattle.mk_base.specs.declared.faults.FaultKind.TheVariants as kinds
 use Rattle.mk_base.specs.Meter.{Meter}
 use Rattle.mk_base.specs.Outcome.{Work, give, fail, each, ◌>>=◌}
-use Rattle.mk_base.specs.Stopping.{GivesOnly, GivesPurely}
-use Rattle.mk_base.specs.declared.stopping.PureStop.{PureStop}
+use Rattle.mk_base.specs.Stops.{GivesOnly, GivesPurely}
+use Rattle.mk_base.specs.declared.stops.PureStop.{PureStop}
 use Rattle.mk_env.specs.Texts.{Variables}
 use Rattle.mk_env.specs.Expansion.{is_among}
 use Rattle.text_parts.specs.Cuts.{now_all}
 use Rattle.pkg_path.specs.Paths.{is_subpackage, is_bare_dash}
 use Rattle.pkg_name.specs.Name.{NameParts, split_name, name_text}
-use Rattle.port_rules.specs.Flavors.{FlavorsValue, marks_of}
+use Rattle.port_rules.specs.Flavors.{FlavorsValue, flavor_marks}
 use Rattle.port_rules.specs.Values.{value, or_else, value_or, ending, package_value, asked_words, package_text}
 
 -- a package of a port: its name among the port's packages, with its dash, its full name, and its comment
@@ -41,12 +42,12 @@ has_double [] = false
 has_double (text ∷ texts) = is_among text texts || has_double texts
 
 -- a dash and a name
-abbrev pub is_named : List ℕ → Bool
-is_named word = is_subpackage word && not (is_bare_dash word)
+abbrev pub is_named_subpackage : List ℕ → Bool
+is_named_subpackage word = is_subpackage word && not (is_bare_dash word)
 
 -- these can name the packages of a port: each is a dash and a name, and none is there twice
 abbrev pub are_subpackages : List (List ℕ) → Bool
-are_subpackages words = list_all is_named words && not (has_double words)
+are_subpackages words = list_all is_named_subpackage words && not (has_double words)
 
 -- a port that names no packages has one, `-`
 abbrev pub or_one : List (List ℕ) → List (List ℕ)
@@ -89,11 +90,12 @@ abbrev pub lettered : ℕ → Option (List ℕ) → List ℕ
 lettered letter None = []
 lettered letter (Some text) = letter ∷ text
 
--- the text of a name, with `p` (112) and the revision and `v` (118) and the epoch right after its version,
+-- the text of a name, with `p` and the revision and `v` and the epoch right after its version,
 -- and with marks at its end
 abbrev pub extended : NameParts → Option (List ℕ) → Option (List ℕ) → List (List ℕ) → List ℕ
 extended name revision epoch marks =
-    name_text (record name { version = name.version ++ lettered 112 revision ++ lettered 118 epoch; flavors = name.flavors ++ marks })
+    name_text
+    (record name { version = name.version ++ lettered small_p revision ++ lettered small_v epoch; flavors = name.flavors ++ marks })
 
 -- a name's text, read as a name, and then that name with revision, epoch and marks, read as one too
 abbrev pub marked_name : List ℕ → Option (List ℕ) → Option (List ℕ) → List (List ℕ) → Work Meter FaultKind NameParts
@@ -194,4 +196,4 @@ GivesEach result variables marks subpackages before after =
 abbrev pub GivesPackages : Result (Vec PackageValue Global) (PureStop FaultKind) → Variables → FlavorsValue
     → List (String Global) → Meter → Meter → Type 0
 GivesPackages result variables flavors subpackages before after =
-    GivesPurely (λ found. found.items) result after (packages_of variables (marks_of flavors) (map string_bytes subpackages) before)
+    GivesPurely (λ found. found.items) result after (packages_of variables (flavor_marks flavors) (map string_bytes subpackages) before)

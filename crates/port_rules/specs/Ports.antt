@@ -8,7 +8,7 @@ use Rattle.mk_base.specs.Meter.{Meter}
 use Rattle.mk_base.specs.Outcome.{Work, give, ◌>>=◌}
 use Rattle.mk_env.specs.Texts.{Variables}
 use Rattle.port_rules.specs.Values.{asked_text, asked_words}
-use Rattle.port_rules.specs.Flavors.{FlavorsValue, flavors_of, marks_of}
+use Rattle.port_rules.specs.Flavors.{FlavorsValue, flavors_read, flavor_marks}
 use Rattle.port_rules.specs.Packages.{PackageValue, subpackages_of, packages_of}
 use Rattle.port_rules.specs.Depends.{DependValue, depends_of}
 
@@ -42,7 +42,7 @@ has_package port subpackage = list_any (λ (found : PackageValue). bytes_eq foun
 -- TEST_DEPENDS.
 unfoldable pub port_of : Variables → Work Meter FaultKind PortValue
 port_of variables m =
-    (flavors_of variables >>= λ flavors. subpackages_of variables >>= λ subpackages. asked_text variables (codes "MAINTAINER")
-    >>= λ maintainer. asked_words variables (codes "CATEGORIES") >>= λ categories. packages_of variables (marks_of flavors) subpackages
+    (flavors_read variables >>= λ flavors. subpackages_of variables >>= λ subpackages. asked_text variables (codes "MAINTAINER")
+    >>= λ maintainer. asked_words variables (codes "CATEGORIES") >>= λ categories. packages_of variables (flavor_marks flavors) subpackages
     >>= λ packages. depends_of variables subpackages
     >>= λ depends. give (make_port flavors maintainer categories packages depends)) m

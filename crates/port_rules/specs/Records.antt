@@ -1,13 +1,13 @@
 -- The record of a port: what it is, in a budget of its own.
 use Rattle.std.specs.Prelude.{◌≤◌, ℕ, List, Result, Ok, Err}
 use Rattle.mk_base.specs.declared.faults.FaultKind.{FaultKind}
-use Rattle.mk_base.specs.declared.metering.TheConstants.{UNITS}
+use Rattle.mk_base.specs.declared.budget.TheConstants.{UNITS}
 use Rattle.mk_base.specs.FaultAt.{fault_at}
 use Rattle.mk_base.specs.Meter.{Meter, full}
 use Rattle.mk_env.specs.Texts.{Variables}
 use Rattle.mk_eval.specs.declared.outcome.Failed.{Failed}
 use Rattle.port_rules.specs.Ports.{PortValue, port_of}
-use Rattle.port_rules.specs.declared.recording.Recorded.{Recorded}
+use Rattle.port_rules.specs.declared.records.Recorded.{Recorded}
 
 -- the end of that work with its cost, in units; a fault is reported at line 0 of the makefile
 abbrev pub recorded : List ℕ → Result (PortValue × Meter) (FaultKind × Meter) → Result Recorded Failed

@@ -6,8 +6,8 @@ use Rattle.std.specs.Str.{bytes_eq, str_to_ascii_lowercase}
 use Rattle.mk_base.specs.declared.faults.FaultKind.{FaultKind}
 use Rattle.mk_base.specs.Meter.{Meter}
 use Rattle.mk_base.specs.Outcome.{Work, give, ◌>>=◌}
-use Rattle.mk_base.specs.Stopping.{GivesPurely}
-use Rattle.mk_base.specs.declared.stopping.PureStop.{PureStop}
+use Rattle.mk_base.specs.Stops.{GivesPurely}
+use Rattle.mk_base.specs.declared.stops.PureStop.{PureStop}
 use Rattle.mk_text.specs.Words.{words_of}
 use Rattle.mk_env.specs.Texts.{Variables, text_in}
 use Rattle.mk_env.specs.Expansion.{variable}
@@ -38,26 +38,26 @@ abbrev pub package_value : Variables → List ℕ → List ℕ → Work Meter Fa
 package_value variables name subpackage = value_or variables (name ++ ending subpackage) name
 
 -- the text of a value: empty if there is none
-abbrev pub text_of : Option (List ℕ) → List ℕ
-text_of None = []
-text_of (Some text) = text
+abbrev pub text_or_empty : Option (List ℕ) → List ℕ
+text_or_empty None = []
+text_or_empty (Some text) = text
 
 -- the text of a variable, its words, and its words lowered
 unfoldable pub asked_text : Variables → List ℕ → Work Meter FaultKind (List ℕ)
-asked_text variables name m = (value variables name >>= λ found. give (text_of found)) m
+asked_text variables name m = (value variables name >>= λ found. give (text_or_empty found)) m
 
 unfoldable pub asked_words : Variables → List ℕ → Work Meter FaultKind (List (List ℕ))
-asked_words variables name m = (value variables name >>= λ found. give (words_of (text_of found))) m
+asked_words variables name m = (value variables name >>= λ found. give (words_of (text_or_empty found))) m
 
 unfoldable pub lowercase_words : Variables → List ℕ → Work Meter FaultKind (List (List ℕ))
-lowercase_words variables name m = (value variables name >>= λ found. give (words_of (str_to_ascii_lowercase (text_of found)))) m
+lowercase_words variables name m = (value variables name >>= λ found. give (words_of (str_to_ascii_lowercase (text_or_empty found)))) m
 
 -- the text of a variable for a package, and its words
 unfoldable pub package_text : Variables → List ℕ → List ℕ → Work Meter FaultKind (List ℕ)
-package_text variables name subpackage m = (package_value variables name subpackage >>= λ found. give (text_of found)) m
+package_text variables name subpackage m = (package_value variables name subpackage >>= λ found. give (text_or_empty found)) m
 
 unfoldable pub package_words : Variables → List ℕ → List ℕ → Work Meter FaultKind (List (List ℕ))
-package_words variables name subpackage m = (package_value variables name subpackage >>= λ found. give (words_of (text_of found))) m
+package_words variables name subpackage m = (package_value variables name subpackage >>= λ found. give (words_of (text_or_empty found))) m
 
 -- an answer is the value that this work finds, or that there is none; the meter goes from one to the other
 abbrev pub MayGive : Result (Option (String Global)) (PureStop FaultKind)

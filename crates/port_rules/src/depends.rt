@@ -27,7 +27,7 @@ pub enum DependKind {
 impl DependKind {
     /// The word for it: `build`, `lib`, `run` or `test`.
     pub fn as_str(self) -> &'static str
-        ensures { result.now ≡ depends.word_of self }
+        ensures { result.now ≡ depends.word_of_kind self }
     {
         match self {
             DependKind::Build => "build",

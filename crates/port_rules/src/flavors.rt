@@ -1,6 +1,6 @@
 //! The flavors of a port.
 ghost use Rattle.std.specs.Prelude.{◌≡◌, map, string_bytes, IfOk};
-ghost use Rattle.mk_base.specs.Stopping.{GivesPurely};
+ghost use Rattle.mk_base.specs.Stops.{GivesPurely};
 ghost use Rattle.text_parts.specs.Cuts.{now_all};
 ghost use Rattle.port_rules.specs.TextSets.{are_held};
 ghost use Rattle.port_rules.specs.Flavors as flavors;
@@ -79,7 +79,7 @@ impl PortFlavors {
 
     /// The marks of the chosen flavors in a package's name.
     pub(crate) fn marks(&self, alloc: Global) -> Result<Vec<&str>, AllocError>
-        ensures { IfOk result (λ marks. now_all marks.items ≡ flavors.marks_of self.now) }
+        ensures { IfOk result (λ marks. now_all marks.items ≡ flavors.flavor_marks self.now) }
     {
         let chosen = TextSet::of(alloc, &self.chosen)?;
         let mut marks = Vec::new(alloc);
@@ -108,13 +108,13 @@ fn are_known<'a>(texts: &'a [String], one: &TextSet<'a>, other: &TextSet<'a>) ->
 ///
 /// The faults of expanding FLAVOR, FLAVORS and PSEUDO_FLAVORS come first. Then it is `Flavor` if a
 /// chosen flavor isn't one of the port's.
-#[tactic(auto, unfolding(crate::specs::Flavors::flavors_of))]
+#[tactic(auto, unfolding(crate::specs::Flavors::flavors_read))]
 pub(crate) fn read_flavors(
     alloc: Global,
     env: &Env,
     budget: &mut Budget,
 ) -> Result<PortFlavors, PureStop<FaultKind>>
-    ensures { GivesPurely (λ x. x) result budget.new (flavors.flavors_of env.now budget.old) }
+    ensures { GivesPurely (λ x. x) result budget.new (flavors.flavors_read env.now budget.old) }
 {
     let chosen = lowercase_words(alloc, env, "FLAVOR", budget)?;
     let proper = lowercase_words(alloc, env, "FLAVORS", budget)?;

@@ -8,7 +8,7 @@ mod laws;
 mod names;
 mod packages;
 mod port;
-mod recording;
+mod records;
 mod text_sets;
 mod values;
 
@@ -17,5 +17,5 @@ pub use flavors::PortFlavors;
 pub use laws::records_cost_few;
 pub use packages::Package;
 pub use port::PortRecord;
-pub use recording::{Recorded, record};
+pub use records::{Recorded, record};
 pub use values::words_in;

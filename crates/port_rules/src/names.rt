@@ -1,6 +1,7 @@
 //! The full names of packages.
 ghost use Rattle.std.specs.Prelude.{◌≡◌, ◌<◌, ◌++◌, ◌∷◌, string_bytes, OnOk};
-ghost use Rattle.pkg_name.specs.Name.{split_name, dash};
+ghost use Rattle.pkg_name.specs.Name.{split_name};
+ghost use Rattle.general_facts.specs.Ascii.{dash};
 ghost use Rattle.port_rules.specs.Packages as packages;
 ghost use Rattle.port_rules.specs.Packages.{GivesDefaultName, GivesFullName, GivesMarkedName};
 ghost use Rattle.port_rules.specs.Packages.{AddsLettered, Extends, GivesNameFreely, GivesPresent};

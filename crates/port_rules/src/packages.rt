@@ -98,7 +98,7 @@ fn are_subpackages(alloc: Global, names: &[String]) -> Result<bool, AllocError>
 
 /// Whether each word is a dash and a name.
 fn are_named(words: &[String]) -> bool
-    ensures { result ≡ list_all packages.is_named (map string_bytes words.now) }
+    ensures { result ≡ list_all packages.is_named_subpackage (map string_bytes words.now) }
 {
     for word in words {
         if !is_named(word) {
@@ -110,7 +110,7 @@ fn are_named(words: &[String]) -> bool
 
 /// Whether a word is a dash and a name.
 fn is_named(word: &str) -> bool
-    ensures { result ≡ packages.is_named word.now }
+    ensures { result ≡ packages.is_named_subpackage word.now }
 {
     word.starts_with('-') && word != "-"
 }

@@ -1,6 +1,6 @@
 //! The record of a port.
 ghost use Rattle.std.specs.Prelude.{◌≡◌, map, string_bytes};
-ghost use Rattle.mk_base.specs.Stopping.{GivesPurely};
+ghost use Rattle.mk_base.specs.Stops.{GivesPurely};
 ghost use Rattle.port_rules.specs.Ports as ports;
 ghost use Rattle.port_rules.specs.Ports.{MakesPort};
 

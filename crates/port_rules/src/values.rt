@@ -172,7 +172,7 @@ pub(crate) fn package_words(
 
 /// The text of a value; empty if there is none.
 fn text_of(alloc: Global, found: Option<String>) -> String
-    ensures { string_bytes result ≡ values.text_of (option_map string_bytes found) }
+    ensures { string_bytes result ≡ values.text_or_empty (option_map string_bytes found) }
 {
     match found {
         Some(text) => text,

@@ -3,12 +3,13 @@ use Rattle.std.proofs.Common.{◌≡◌, ℕ, List, [], ◌∷◌, ◌++◌, ref
 use Rattle.std.specs.Prelude.{map}
 use Rattle.std.proofs.lemmas.List.{nil_from_length}
 use Rattle.ports_http.specs.Messages.{ReplyMessage}
-use Rattle.ports_plain.specs.Plain.{PlainRequest, plain}
+use Rattle.ports_plain.specs.Requests.{PlainRequest}
+use Rattle.ports_plain.specs.Plain.{plain}
 use Rattle.ports_core.specs.declared.event.Event.{Event}
 use Rattle.ports_core.specs.declared.queue.QueuedRequest.{QueuedRequest}
 use Rattle.ports_core.specs.Effects.{Effect}
 use Rattle.mk_paths.specs.World.{World, opening_world}
-use Rattle.ports_core.specs.Answering.{plain_answer}
+use Rattle.ports_core.specs.Answers.{plain_answer}
 use Rattle.ports_core.specs.State.{State}
 use Rattle.ports_core.specs.Plainly.{told_to, answers_of, own_of, plain_run, IsToldPlainly}
 use Rattle.ports_core.specs.Alike.{requests_of, replies_to, AreAlike, own_requests, AreToldAlike}

@@ -11,10 +11,10 @@ use Rattle.ports_core.specs.declared.connection.Connection.{Connection}
 use Rattle.ports_core.specs.declared.queue.QueuedRequest.{QueuedRequest}
 use Rattle.ports_core.specs.Keys.{tenant_of}
 use Rattle.mk_paths.specs.World.{World}
-use Rattle.ports_core.specs.Slices.{Slice, Queue, joined, sliced}
+use Rattle.ports_core.specs.Slices.{Slice, Queue, with_requests, sliced}
 use Rattle.ports_core.specs.Connections.{new_connection, hears, is_empty}
-use Rattle.ports_core.specs.Taking.{Taken, Nothing, Whole, Refusal, Lost, TakesOff, told_of_tenant, refused_at_once, entering}
-use Rattle.ports_core.specs.Telling.{in_turn}
+use Rattle.ports_core.specs.Intake.{Taken, Nothing, Whole, Refusal, Lost, TakesOff, told_of_tenant, refused_at_once, entering}
+use Rattle.ports_core.specs.Tell.{in_turn}
 use Rattle.ports_core.specs.Opened.{KeepsConnections, KeepsOthers}
 use Rattle.ports_core.specs.Books.{TellsOn, BookOpens, BookTurns, BookStep}
 use Rattle.ports_core.specs.State.{State, keys_of, next_of, world_at, queue_at, slice_of, book_of, connection_of, IsAllowed}
@@ -24,7 +24,7 @@ use Rattle.ports_core.proofs.Lists.{none_some, some_same}
 use Rattle.ports_core.proofs.TakingLemmas.{nothing_after}
 
 -- a world and a queue after which requests wait
-sliced-joined : (queued_requests : List QueuedRequest) (world : Option World) (queue : Option Queue) → sliced world (option_map (λ (q : Queue). q ++ queued_requests) queue) ≡ option_map (joined queued_requests) (sliced world queue)
+sliced-joined : (queued_requests : List QueuedRequest) (world : Option World) (queue : Option Queue) → sliced world (option_map (λ (q : Queue). q ++ queued_requests) queue) ≡ option_map (with_requests queued_requests) (sliced world queue)
 sliced-joined queued_requests None queue = refl
 sliced-joined queued_requests (Some world) None = refl
 sliced-joined queued_requests (Some world) (Some queue) = refl

@@ -3,25 +3,25 @@ use Rattle.std.proofs.Common.{◌≡◌, ◌<◌, ◌∙◌, ℕ, Bool, true, fa
 use Rattle.std.specs.Prelude.{MatchBool, MatchOption, slice_get}
 use Rattle.std.proofs.lemmas.Option.{slice_get-get_or}
 use Rattle.mk_paths.specs.World.{World, opening_world}
-use Rattle.ports_index.specs.declared.spending.Spent.{Spent}
-use Rattle.ports_index.specs.Spending.{no_spending, spent_together}
+use Rattle.ports_index.specs.declared.spent.Spent.{Spent}
+use Rattle.ports_index.specs.Spent.{no_spending, spent_together}
 use Rattle.ports_http.specs.Messages.{ReplyMessage}
 use Rattle.ports_core.specs.declared.event.Tell.{Tell}
 use Rattle.ports_core.specs.declared.event.Told.{Told}
 use Rattle.ports_core.specs.declared.queue.QueuedRequest.{QueuedRequest}
-use Rattle.ports_core.specs.Charging.{Spends, MayHaveHad, Charges, ChargesFor, FitsTurn, GoesOn, TurnSpends}
+use Rattle.ports_core.specs.Charges.{SpendsOnRequest, MayHaveHad, Charges, ChargesFor, FitsTurn, LeavesUnanswered, TurnSpends}
 use Rattle.ports_core.specs.Jobs.{TenantJob, had_by, spent_on, one_turn_more}
 use Rattle.ports_core.specs.Slices.{Slice, Queue, sliced}
-use Rattle.ports_core.specs.Telling.{in_turn, is_failure, spent_in, CountsNone}
+use Rattle.ports_core.specs.Tell.{in_turn, is_failure, spent_as_told, CountsNone}
 
-counts_none : (told : Told) → spent_in told ≡ no_spending → CountsNone told
+counts_none : (told : Told) → spent_as_told told ≡ no_spending → CountsNone told
 counts_none told none = (ap (λ (s : Spent). s.units) none, ap (λ (s : Spent). s.checks) none)
 
 -- what is told fits a turn if it is what was spent in one, or nothing
-pub short_told : (told : Told) (spent : Spent) → spent_in told ≡ spent → FitsTurn spent → FitsTurn (spent_in told)
+pub short_told : (told : Told) (spent : Spent) → spent_as_told told ≡ spent → FitsTurn spent → FitsTurn (spent_as_told told)
 short_told told spent is short = subst FitsTurn (sym is) short
 
-pub short_none : (told : Told) → CountsNone told → FitsTurn (spent_in told)
+pub short_none : (told : Told) → CountsNone told → FitsTurn (spent_as_told told)
 short_none told none = omega (arith, none.0, none.1)
 
 -- a tenant with a world has a slice whose first request is the one that waits first
@@ -32,17 +32,17 @@ slice_there t worlds queues queue rest first world there was waited = ap (λ w. 
 module _ (t : ℕ) (told : Told) (worlds : List World) (queues : List Queue) (job : Option TenantJob) (queue rest : Queue) (first : QueuedRequest) (reply : ReplyMessage) (spent : Spent) (world : World)
     (there : slice_get worlds t ≡ Some world) (was : slice_get queues t ≡ Some queue) (waited : queue ≡ first ∷ rest)
     (charges : ChargesFor t first.request reply (spent_on job) spent worlds)
-    (tells : told.reply ≡ Some (in_turn t first.conn reply)) (tells_spent : spent_in told ≡ spent) where
-  charged : Charges world first.request reply (spent_on job) (spent_in told)
+    (tells : told.reply ≡ Some (in_turn t first.conn reply)) (tells_spent : spent_as_told told ≡ spent) where
+  charged : Charges world first.request reply (spent_on job) (spent_as_told told)
   charged = subst (λ (s : Spent). Charges world first.request reply (spent_on job) s) (sym tells_spent) (charges world there)
 
   -- the first request is answered
   pub turn_spends : TurnSpends (sliced (slice_get worlds t) (slice_get queues t)) job told
   turn_spends =
       subst (λ (s : Option Slice). TurnSpends s job told) (sym (slice_there t worlds queues queue rest first world there was waited))
-      (subst (λ (r : Option Tell). MatchOption r (MayHaveHad world first.request (one_turn_more (had_by job) (spent_in told))) (λ (tell : Tell). Charges world first.request tell.reply (spent_on job) (spent_in told))) (sym tells) charged)
+      (subst (λ (r : Option Tell). MatchOption r (MayHaveHad world first.request (one_turn_more (had_by job) (spent_as_told told))) (λ (tell : Tell). Charges world first.request tell.reply (spent_on job) (spent_as_told told))) (sym tells) charged)
 
-  none_with_503 : (failed : Bool) → MatchBool failed (spent_in told ≡ no_spending) (Spends world first.request (spent_together (spent_on job) (spent_in told))) → failed ≡ true → CountsNone told
+  none_with_503 : (failed : Bool) → MatchBool failed (spent_as_told told ≡ no_spending) (SpendsOnRequest world first.request (spent_together (spent_on job) (spent_as_told told))) → failed ≡ true → CountsNone told
   none_with_503 true none is = counts_none told none
   none_with_503 false spends is = absurd cc
 
@@ -64,12 +64,12 @@ idle_spends t told worlds queues job queue was empty none =
 
 -- the first request isn't answered yet
 pub pending_spends : (t : ℕ) (told : Told) (worlds worlds_after : List World) (queues : List Queue) (job : Option TenantJob) (queue rest : Queue) (first : QueuedRequest) (spent : Spent)
-    → t < length worlds → slice_get queues t ≡ Some queue → queue ≡ first ∷ rest → GoesOn t first.request (had_by job) spent worlds worlds_after
-    → told.reply ≡ None → spent_in told ≡ spent → TurnSpends (sliced (slice_get worlds t) (slice_get queues t)) job told
+    → t < length worlds → slice_get queues t ≡ Some queue → queue ≡ first ∷ rest → LeavesUnanswered t first.request (had_by job) spent worlds worlds_after
+    → told.reply ≡ None → spent_as_told told ≡ spent → TurnSpends (sliced (slice_get worlds t) (slice_get queues t)) job told
 pending_spends t told worlds worlds_after queues job queue rest first spent within was waited goes_on silent tells_spent =
     let world : World = get_or worlds t opening_world in
     let there : slice_get worlds t ≡ Some world = slice_get-get_or worlds t opening_world within in
-    let spends : MayHaveHad world first.request (one_turn_more (had_by job) (spent_in told)) =
+    let spends : MayHaveHad world first.request (one_turn_more (had_by job) (spent_as_told told)) =
     subst (λ (s : Spent). MayHaveHad world first.request (one_turn_more (had_by job) s)) (sym tells_spent) (goes_on.within world there) in
     subst (λ (s : Option Slice). TurnSpends s job told) (sym (slice_there t worlds queues queue rest first world there was waited))
-    (subst (λ (r : Option Tell). MatchOption r (MayHaveHad world first.request (one_turn_more (had_by job) (spent_in told))) (λ (tell : Tell). Charges world first.request tell.reply (spent_on job) (spent_in told))) (sym silent) spends)
+    (subst (λ (r : Option Tell). MatchOption r (MayHaveHad world first.request (one_turn_more (had_by job) (spent_as_told told))) (λ (tell : Tell). Charges world first.request tell.reply (spent_on job) (spent_as_told told))) (sym silent) spends)

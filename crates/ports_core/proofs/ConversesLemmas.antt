@@ -9,16 +9,16 @@ use Rattle.ports_core.proofs.Lists.{option_from}
 use Rattle.ports_core.proofs.QueueLemmas.{queued_requests_of, queued_request, queued_requests_at, queued_requests_join}
 use Rattle.ports_http.specs.Messages.{RequestMessage, ReplyMessage}
 use Rattle.ports_http.specs.Streams.{Waits}
-use Rattle.ports_http.specs.Incoming.{Incoming, opening, ended, Removes}
+use Rattle.ports_http.specs.UnreadBytes.{Incoming, opening_stream, ended, Removes}
 use Rattle.ports_http.specs.Replies.{reply_text, fault_reply, unknown_key, store_failed}
 use Rattle.ports_core.specs.declared.connection.Connection.{Connection}
 use Rattle.ports_core.specs.declared.event.Tell.{Tell}
 use Rattle.ports_core.specs.declared.queue.QueuedRequest.{QueuedRequest}
 use Rattle.ports_core.specs.Keys.{tenant_of}
-use Rattle.ports_core.specs.Slices.{Slice, waiting_of, joined}
+use Rattle.ports_core.specs.Slices.{Slice, waiting_of, with_requests}
 use Rattle.ports_core.specs.Connections.{kept, is_done, is_ready, is_empty, with_pending}
-use Rattle.ports_core.specs.Telling.{at_once, in_turn}
-use Rattle.ports_core.specs.Taking.{Taken, Nothing, Whole, Refusal, Lost, TakesOff, IsTaken, told_of_tenant, refused_at_once, connection_with, connection_after, entering_of, entering}
+use Rattle.ports_core.specs.Tell.{at_once, in_turn}
+use Rattle.ports_core.specs.Intake.{Taken, Nothing, Whole, Refusal, Lost, TakesOff, IsTaken, told_of_tenant, refused_at_once, connection_with, connection_after, entering_of, entering}
 use Rattle.ports_core.specs.State.{State, slice_of, connection_of, next_of}
 use Rattle.ports_core.specs.Conversations.{told_in}
 use Rattle.ports_core.proofs.TalkLemmas.{Talk, talk_waits, talk_told, talk_refused}
@@ -58,7 +58,7 @@ pub record ConversesShut (keys : List (List ℕ)) (Plain : ℕ → QueuedRequest
   pub at : connection_of c state ≡ None
   pub left : Incoming
   pub talk : Talk keys Plain c came sent tells [] [] left
-  pub fresh : next_of state ≤ c → (left ≡ opening) × (came ≡ [])
+  pub fresh : next_of state ≤ c → (left ≡ opening_stream) × (came ≡ [])
   pub idle : came ≢ [] → TakesOff left Nothing left
   pub queued : Queued c state None []
 
@@ -145,18 +145,18 @@ over_after request old new takes =
 
 -- what is taken off a connection that isn't lost
 module _ (keys : List (List ℕ)) (Plain : ℕ → QueuedRequest → ReplyMessage → Type 0) (c : ℕ) (came sent : List ℕ) (tells : List Tell) (connection : Connection) (old mid : State) (is : IsConnection keys Plain c came sent tells connection old) (stream : Incoming) where
-  stay_queued : (slice before : Slice) → joined [] before ≡ slice → queued_requests_of c (waiting_of slice) ≡ queued_requests_of c (waiting_of before)
+  stay_queued : (slice before : Slice) → with_requests [] before ≡ slice → queued_requests_of c (waiting_of slice) ≡ queued_requests_of c (waiting_of before)
   stay_queued slice before same = ap (λ (s : Slice). queued_requests_of c (waiting_of s)) (sym same) ∙ ap (queued_requests_of c) (append-nil (waiting_of before))
 
   -- nothing is taken
-  takes_nothing : stream ≡ connection.stream → ((u : ℕ) → slice_of u mid ≡ option_map (joined []) (slice_of u old))
+  takes_nothing : stream ≡ connection.stream → ((u : ℕ) → slice_of u mid ≡ option_map (with_requests []) (slice_of u old))
       → IsConnection keys Plain c came sent (tells ++ []) (record connection { stream = stream }) mid
   takes_nothing same slices = record {
     alive = is.alive;
     waiting = is.waiting;
     talk = subst (λ ts. Talk keys Plain c came sent ts connection.pending is.waiting stream) (sym (append-nil tells)) (subst (λ s. Talk keys Plain c came sent tells connection.pending is.waiting s) (sym same) is.talk);
     holds = subst (λ (s : Incoming). Holds keys connection.waits is.waiting connection.pending s.over) (sym same) is.holds;
-    queued = λ u slice was. let from = option_from (joined []) (slice_of u old) slice (sym (slices u) ∙ was) in
+    queued = λ u slice was. let from = option_from (with_requests []) (slice_of u old) slice (sym (slices u) ∙ was) in
         stay_queued slice from.0 from.2 ∙ is.queued u from.0 from.1;
   }
 
@@ -178,20 +178,20 @@ module _ (keys : List (List ℕ)) (Plain : ℕ → QueuedRequest → ReplyMessag
 
     -- something was taken and is answered at once
     told_connection : (tell : Tell) (pending : List ℕ) → tell.conn ≡ c → Talk keys Plain c came sent (tells ++ tell ∷ []) pending [] stream
-        → ((u : ℕ) → slice_of u mid ≡ option_map (joined []) (slice_of u old))
+        → ((u : ℕ) → slice_of u mid ≡ option_map (with_requests []) (slice_of u old))
         → IsConnection keys Plain c came sent (tells ++ told_in c (Some tell)) (record connection { stream = stream; pending = pending }) mid
     told_connection tell pending here talk slices = record {
       alive = is.alive;
       waiting = [];
       talk = subst (λ ts. Talk keys Plain c came sent (tells ++ ts) pending [] stream) (sym (told_here c tell here)) talk;
       holds = subst (λ w. Holds keys w [] pending stream.over) (sym ready_waits) refl;
-      queued = λ u slice was. let from = option_from (joined []) (slice_of u old) slice (sym (slices u) ∙ was) in
+      queued = λ u slice was. let from = option_from (with_requests []) (slice_of u old) slice (sym (slices u) ∙ was) in
           stay_queued slice from.0 from.2 ∙ ready_queues u from.0 from.1 ∙ sym (none_at c u connection.waits [] ready_waits);
     }
 
     -- a request of that tenant, or of none, is taken
     takes_whole : (place : Option ℕ) (request : RequestMessage) → tenant_of keys request.key ≡ place → Removes connection.stream request stream
-        → ((u : ℕ) → slice_of u mid ≡ option_map (joined (entering_of place c u request)) (slice_of u old))
+        → ((u : ℕ) → slice_of u mid ≡ option_map (with_requests (entering_of place c u request)) (slice_of u old))
         → IsConnection keys Plain c came sent (tells ++ told_in c (told_of_tenant c place)) (connection_with place request.close (record connection { stream = stream })) mid
     takes_whole None request key_is takes slices =
         told_connection (at_once c unknown_key) (reply_text unknown_key request.close) refl
@@ -204,13 +204,13 @@ module _ (keys : List (List ℕ)) (Plain : ℕ → QueuedRequest → ReplyMessag
       talk = subst (λ p. Talk keys Plain c came sent (tells ++ []) p (request ∷ []) stream) (sym ready_pending)
           (subst (λ ts. Talk keys Plain c came sent ts [] (request ∷ []) stream) (sym (append-nil tells)) (talk_waits keys Plain c came sent tells connection.stream stream request takes ready_talk));
       holds = (request, refl, key_is, ready_pending, over_after request connection.stream stream takes);
-      queued = λ u slice was. let from = option_from (joined (entering_of (Some tenant) c u request)) (slice_of u old) slice (sym (slices u) ∙ was) in
+      queued = λ u slice was. let from = option_from (with_requests (entering_of (Some tenant) c u request)) (slice_of u old) slice (sym (slices u) ∙ was) in
           ap (λ (s : Slice). queued_requests_of c (waiting_of s)) (sym from.2) ∙ queued_requests_join c tenant u request (waiting_of from.0) (ready_queues u from.0 from.1);
     }
 
   -- whatever is taken
   takes_ready : (taken : Taken) → is_ready connection ≡ true → TakesOff connection.stream taken stream
-      → ((u : ℕ) → slice_of u mid ≡ option_map (joined (entering keys c taken u)) (slice_of u old))
+      → ((u : ℕ) → slice_of u mid ≡ option_map (with_requests (entering keys c taken u)) (slice_of u old))
       → IsConnection keys Plain c came sent (tells ++ told_in c (refused_at_once keys c taken)) (connection_after keys taken (record connection { stream = stream })) mid
   takes_ready Nothing ready takes slices = takes_nothing takes.0 slices
   takes_ready (Whole request) ready takes slices = takes_whole ready (tenant_of keys request.key) request refl takes slices
@@ -225,12 +225,12 @@ module _ (keys : List (List ℕ)) (Plain : ℕ → QueuedRequest → ReplyMessag
       slices
 
   pub takes : (taken : Taken) → IsTaken connection taken stream
-      → ((u : ℕ) → slice_of u mid ≡ option_map (joined (entering keys c taken u)) (slice_of u old))
+      → ((u : ℕ) → slice_of u mid ≡ option_map (with_requests (entering keys c taken u)) (slice_of u old))
       → IsConnection keys Plain c came sent (tells ++ told_in c (refused_at_once keys c taken)) (connection_after keys taken (record connection { stream = stream })) mid
   takes taken stands slices =
       let Q : Taken → Type 0 = λ k. IsConnection keys Plain c came sent (tells ++ told_in c (refused_at_once keys c k)) (connection_after keys k (record connection { stream = stream })) mid in
       let P : Bool → Type 0 = λ b. is_ready connection ≡ b → MatchBool b (TakesOff connection.stream taken stream) ((taken ≡ Nothing) × (stream ≡ connection.stream)) → Q taken in
       elim (is_ready connection) as P [
         | true ↦ λ ready off. takes_ready taken ready off slices
-        | false ↦ λ busy off. subst Q (sym off.0) (takes_nothing off.1 (λ u. slices u ∙ ap (λ k. option_map (joined (entering keys c k u)) (slice_of u old)) off.0))
+        | false ↦ λ busy off. subst Q (sym off.0) (takes_nothing off.1 (λ u. slices u ∙ ap (λ k. option_map (with_requests (entering keys c k u)) (slice_of u old)) off.0))
       ] refl stands

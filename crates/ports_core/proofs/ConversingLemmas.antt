@@ -7,7 +7,7 @@ use Rattle.std.proofs.lemmas.Bool.{cases_eq}
 use Rattle.std.proofs.lemmas.List.{take_all}
 use Rattle.ports_http.specs.Messages.{RequestMessage, ReplyMessage}
 use Rattle.ports_http.specs.Limits.{unread_limit}
-use Rattle.ports_http.specs.Incoming.{opening, fed, room_of}
+use Rattle.ports_http.specs.UnreadBytes.{opening_stream, fed, room_of}
 use Rattle.ports_http.specs.Replies.{reply_text, fault_reply, unknown_key, store_failed}
 use Rattle.ports_core.specs.declared.connection.Connection.{Connection}
 use Rattle.ports_core.specs.declared.event.Event.{Event}
@@ -18,10 +18,10 @@ use Rattle.ports_core.specs.declared.event.Refused.{Refused}
 use Rattle.ports_core.specs.declared.queue.QueuedRequest.{QueuedRequest}
 use Rattle.ports_core.specs.Effects.{Effect}
 use Rattle.ports_core.specs.Keys.{tenant_of}
-use Rattle.ports_core.specs.Slices.{Slice, Queue, waiting_of, joined}
-use Rattle.ports_core.specs.Connections.{new_connection, hears, answered, kept, is_ready, room_on, count_off, Fits}
-use Rattle.ports_core.specs.Telling.{at_once, in_turn}
-use Rattle.ports_core.specs.Taking.{Taken, Nothing, Whole, Refusal, Lost, TakesOff, IsTaken, connection_after, told_of_tenant, refused_at_once, entering}
+use Rattle.ports_core.specs.Slices.{Slice, Queue, waiting_of, with_requests}
+use Rattle.ports_core.specs.Connections.{new_connection, hears, answered, kept, is_ready, room_on, count_off, MayHappenTo}
+use Rattle.ports_core.specs.Tell.{at_once, in_turn}
+use Rattle.ports_core.specs.Intake.{Taken, Nothing, Whole, Refusal, Lost, TakesOff, IsTaken, connection_after, told_of_tenant, refused_at_once, entering}
 use Rattle.ports_core.specs.State.{State, keys_of, slice_of, connection_of, book_of, next_of, IsAllowed}
 use Rattle.ports_core.specs.Changes.{KeepsSlices, FirstLeaves, ChangesSlices}
 use Rattle.ports_core.specs.Books.{HearsOn, TellsOn, BookTurns}
@@ -79,7 +79,7 @@ module _ (keys : List (List ℕ)) (Plain : ℕ → QueuedRequest → ReplyMessag
 
 -- an event brings and takes so much, and the connection is then so
 abbrev pub IsHeard : List (List ℕ) → (ℕ → QueuedRequest → ReplyMessage → Type 0) → ℕ → Event → Effect → State → Type 0
-IsHeard keys Plain c event step old = (came sent : List ℕ) (tells : List Tell) (connection : Connection) → Fits event connection → connection_of c old ≡ Some connection → IsConnection keys Plain c came sent tells connection old
+IsHeard keys Plain c event step old = (came sent : List ℕ) (tells : List Tell) (connection : Connection) → MayHappenTo event connection → connection_of c old ≡ Some connection → IsConnection keys Plain c came sent tells connection old
     → IsConnection keys Plain c (came ++ came_in c event) (sent ++ sent_in c event step) tells (hears event connection) old
 
 here : {X : Type 0} (c : ℕ) (xs : List X) → (if c == c then xs else []) ≡ xs
@@ -179,11 +179,11 @@ module _ (keys : List (List ℕ)) (Plain : ℕ → QueuedRequest → ReplyMessag
       (subst (λ ts. Stands keys Plain c came sent ts mid) (sym (ap (λ ts. tells ++ ts) h.told ∙ append-nil tells)) (stands_on h came sent tells stands)))
 
 -- where nothing is taken, nothing enters
-pub none_enters : (keys : List (List ℕ)) (d : ℕ) (told : Told) (taken : Taken) (old mid : State) → KeepsSlices told taken old mid → (u : ℕ) → slice_of u mid ≡ option_map (joined (entering keys d taken u)) (slice_of u old)
+pub none_enters : (keys : List (List ℕ)) (d : ℕ) (told : Told) (taken : Taken) (old mid : State) → KeepsSlices told taken old mid → (u : ℕ) → slice_of u mid ≡ option_map (with_requests (entering keys d taken u)) (slice_of u old)
 none_enters keys d told taken old mid rests u =
-    rests.slices u ∙ as_it_was (slice_of u old) ∙ ap (λ k. option_map (joined (entering keys d k u)) (slice_of u old)) (sym rests.nothing)
+    rests.slices u ∙ as_it_was (slice_of u old) ∙ ap (λ k. option_map (with_requests (entering keys d k u)) (slice_of u old)) (sym rests.nothing)
   where
-    as_it_was : (o : Option Slice) → o ≡ option_map (joined []) o
+    as_it_was : (o : Option Slice) → o ≡ option_map (with_requests []) o
     as_it_was None = refl
     as_it_was (Some slice) = ap (λ (ws : List QueuedRequest). let s : Slice = (slice.0, ws) in Some s) (sym (append-nil slice.1))
 
@@ -193,17 +193,17 @@ pub same_queues : (c : ℕ) (old mid : State) → ((u : ℕ) → slice_of u mid 
 same_queues c old mid slices u slice was = (slice, sym (slices u) ∙ was, refl)
 
 -- the connection itself hears something
-hears_moves : (keys : List (List ℕ)) (Plain : ℕ → QueuedRequest → ReplyMessage → Type 0) (c : ℕ) (event : Event) (step : Effect) (taken : Taken) (old mid : State) → keys_of old ≡ keys → OpenAnd (connection_of c old) (Fits event) → IsHeard keys Plain c event step old
-    → HearsOn (keys_of old) event c step.told taken (book_of old) (book_of mid) → ((u : ℕ) → slice_of u mid ≡ option_map (joined (entering (keys_of old) c taken u)) (slice_of u old)) → next_of old ≤ next_of mid
+hears_moves : (keys : List (List ℕ)) (Plain : ℕ → QueuedRequest → ReplyMessage → Type 0) (c : ℕ) (event : Event) (step : Effect) (taken : Taken) (old mid : State) → keys_of old ≡ keys → OpenAnd (connection_of c old) (MayHappenTo event) → IsHeard keys Plain c event step old
+    → HearsOn (keys_of old) event c step.told taken (book_of old) (book_of mid) → ((u : ℕ) → slice_of u mid ≡ option_map (with_requests (entering (keys_of old) c taken u)) (slice_of u old)) → next_of old ≤ next_of mid
     → Moves keys Plain c event step old mid
 hears_moves keys Plain c event step taken old mid keys_are allowed heard h enters next came sent tells (inr is) = absurd (none_some (sym is.at ∙ h.was_open))
 hears_moves keys Plain c event step taken old mid keys_are allowed heard h enters next came sent tells (inl is) =
     let connection_is : h.connection ≡ is.connection = some_same (sym h.was_open ∙ is.at) in
-    let fits : Fits event is.connection = subst (λ (o : Option Connection). OpenAnd o (Fits event)) is.at allowed in
+    let fits : MayHappenTo event is.connection = subst (λ (o : Option Connection). OpenAnd o (MayHappenTo event)) is.at allowed in
     let now = heard came sent tells is.connection fits is.at is.is_connection in
     let stream = h.takes.stream in
     let stands = subst (λ l. IsTaken (hears event l) taken stream) connection_is h.takes.stands in
-    let slices = λ (u : ℕ). enters u ∙ ap (λ ks. option_map (joined (entering ks c taken u)) (slice_of u old)) keys_are in
+    let slices = λ (u : ℕ). enters u ∙ ap (λ ks. option_map (with_requests (entering ks c taken u)) (slice_of u old)) keys_are in
     let took = takes keys Plain c (came ++ came_in c event) (sent ++ sent_in c event step) tells (hears event is.connection) old mid now stream taken stands slices in
     let after_is : connection_after keys taken (record (hears event is.connection) { stream = stream }) ≡ h.after =
     sym (h.takes.connection_is ∙ ap (λ ks. connection_after ks taken (record (hears event h.connection) { stream = stream })) keys_are ∙ ap (λ l. connection_after keys taken (record (hears event l) { stream = stream })) connection_is) in
@@ -227,7 +227,7 @@ told_by keys c d (Lost close) apart = told_there c (at_once d store_failed) apar
 
 -- another connection hears something
 pub hears_untouched : (c d : ℕ) (event : Event) (step : Effect) (taken : Taken) (old mid : State) → d ≢ c → came_in c event ≡ [] → sent_in c event step ≡ []
-    → HearsOn (keys_of old) event d step.told taken (book_of old) (book_of mid) → ((u : ℕ) → slice_of u mid ≡ option_map (joined (entering (keys_of old) d taken u)) (slice_of u old)) → next_of old ≤ next_of mid
+    → HearsOn (keys_of old) event d step.told taken (book_of old) (book_of mid) → ((u : ℕ) → slice_of u mid ≡ option_map (with_requests (entering (keys_of old) d taken u)) (slice_of u old)) → next_of old ≤ next_of mid
     → Untouched c event step old mid
 hears_untouched c d event step taken old mid apart no_bytes none_sent h enters next = record {
   came = no_bytes;
@@ -236,7 +236,7 @@ hears_untouched c d event step taken old mid apart no_bytes none_sent h enters n
   connection = h.others c (λ e. apart (sym e));
   next = next;
   queues = λ u slice was.
-      let from = option_from (joined (entering (keys_of old) d taken u)) (slice_of u old) slice (sym (enters u) ∙ was) in
+      let from = option_from (with_requests (entering (keys_of old) d taken u)) (slice_of u old) slice (sym (enters u) ∙ was) in
       (from.0, from.1, ap (λ (s : Slice). queued_requests_of c (waiting_of s)) (sym from.2) ∙ queued_requests_after (keys_of old) c d taken u (waiting_of from.0) apart);
 }
 
@@ -257,7 +257,7 @@ opened : (keys : List (List ℕ)) (Plain : ℕ → QueuedRequest → ReplyMessag
 opened keys Plain c d step taken old mid here is_next below connection_is rests came sent tells (inl is) = absurd (omega (arith, is.below, is_next, here))
 opened keys Plain c d step taken old mid here is_next below connection_is rests came sent tells (inr is) =
     let fresh = is.fresh (omega (arith, is_next, here)) in
-    let talk : Talk keys Plain c came sent tells [] [] opening = subst (λ s. Talk keys Plain c came sent tells [] [] s) fresh.0 is.talk in
+    let talk : Talk keys Plain c came sent tells [] [] opening_stream = subst (λ s. Talk keys Plain c came sent tells [] [] s) fresh.0 is.talk in
     let told : told_in c step.told.reply ≡ [] = ap (told_in c) rests.silent in
     let stands : Stands keys Plain c came sent tells mid = inl (record {
       connection = new_connection;
@@ -401,9 +401,9 @@ turns_move keys Plain c t step taken old mid (inr h) book next plain =
     ⊎_elim (λ here. answered_here keys Plain c t step taken old mid h tells next (plain t taken h refl) here) (λ apart. untouched keys Plain c (Turn t) step old mid (answered_there c t step taken old mid h tells next apart)) (cases_eq h.first.conn c)
 
 -- an event of an open connection, this one or another
-heard_move : (keys : List (List ℕ)) (Plain : ℕ → QueuedRequest → ReplyMessage → Type 0) (c d : ℕ) (event : Event) (step : Effect) (taken : Taken) (old mid : State) → keys_of old ≡ keys → OpenAnd (connection_of d old) (Fits event) → IsHeard keys Plain d event step old
+heard_move : (keys : List (List ℕ)) (Plain : ℕ → QueuedRequest → ReplyMessage → Type 0) (c d : ℕ) (event : Event) (step : Effect) (taken : Taken) (old mid : State) → keys_of old ≡ keys → OpenAnd (connection_of d old) (MayHappenTo event) → IsHeard keys Plain d event step old
     → (d ≢ c → came_in c event ≡ []) → (d ≢ c → sent_in c event step ≡ [])
-    → HearsOn (keys_of old) event d step.told taken (book_of old) (book_of mid) → ((u : ℕ) → slice_of u mid ≡ option_map (joined (entering (keys_of old) d taken u)) (slice_of u old)) → next_of old ≤ next_of mid
+    → HearsOn (keys_of old) event d step.told taken (book_of old) (book_of mid) → ((u : ℕ) → slice_of u mid ≡ option_map (with_requests (entering (keys_of old) d taken u)) (slice_of u old)) → next_of old ≤ next_of mid
     → Moves keys Plain c event step old mid
 heard_move keys Plain c d event step taken old mid keys_are allowed heard no_bytes none_sent h enters next =
     ⊎_elim (λ same. subst (λ n. Moves keys Plain n event step old mid) same (hears_moves keys Plain d event step taken old mid keys_are allowed heard h enters next))

@@ -4,7 +4,7 @@ use Rattle.std.specs.Prelude.{◌⊎◌, MatchOption, if◌then◌else◌, optio
 use Rattle.std.proofs.lemmas.Bool.{cases_eq}
 use Rattle.mk_paths.specs.World.{World}
 use Rattle.ports_index.specs.PathOutcomes.{counted}
-use Rattle.ports_plain.specs.Resting.{most_turns}
+use Rattle.ports_plain.specs.AnswerCosts.{most_turns}
 use Rattle.ports_core.specs.declared.event.Event.{Event}
 use Rattle.ports_core.specs.declared.event.Event.TheVariants.{Open, Piece, End, Fault, Wrote, Turn}
 use Rattle.ports_core.specs.declared.event.Told.{Told}
@@ -12,19 +12,19 @@ use Rattle.ports_core.specs.declared.event.Tell.{Tell}
 use Rattle.ports_core.specs.declared.job.Job.{Job}
 use Rattle.ports_core.specs.declared.queue.QueuedRequest.{QueuedRequest}
 use Rattle.ports_core.specs.Effects.{Effect}
-use Rattle.ports_core.specs.Answering.{plain_request_of}
-use Rattle.ports_core.specs.Slices.{Slice, Queue, joined}
+use Rattle.ports_core.specs.Answers.{plain_request_of}
+use Rattle.ports_core.specs.Slices.{Slice, Queue, with_requests}
 use Rattle.ports_core.specs.Jobs.{TenantJob, had_by, spent_on, one_turn_more, first_of, job_after}
 use Rattle.ports_core.specs.JobChanges.{KeepsJobs, TurnsJob, job_after_turn}
 use Rattle.ports_core.specs.Sharing.{Sizes}
 use Rattle.ports_core.specs.State.{State, keys_of, new_state, world_at, queue_at, slice_of, job_at}
-use Rattle.ports_core.specs.Taking.{Taken, entering}
-use Rattle.ports_core.specs.Telling.{in_turn, spent_in}
-use Rattle.ports_core.specs.Charging.{MayHaveHad, Charges, TurnSpends}
+use Rattle.ports_core.specs.Intake.{Taken, entering}
+use Rattle.ports_core.specs.Tell.{in_turn, spent_as_told}
+use Rattle.ports_core.specs.Charges.{MayHaveHad, Charges, TurnSpends}
 use Rattle.ports_core.specs.Steps.{Turns, IsPending}
 use Rattle.ports_core.specs.Changes.{Enters, ChangesSlices}
 use Rattle.ports_core.specs.Runs.{Happens, Run}
-use Rattle.ports_core.specs.Plainly.{is_of, told_if, told_to}
+use Rattle.ports_core.specs.Plainly.{is_this_tenant, told_if, told_to}
 use Rattle.ports_core.specs.InTime.{turn_in, own_turns, turns_had, EachRequestIsToldInTime, EachFirstHasTurnsLeft}
 use Rattle.ports_core.proofs.ChangeLemmas.{seen, slice_parts, same_slice}
 use Rattle.ports_core.proofs.Lists.{option_from}
@@ -33,7 +33,7 @@ use Rattle.ports_core.proofs.Numbers.{other_number}
 -- What an event is to a tenant whose turn it isn't: requests may come to wait after the others, and the job stays.
 pub record Stays (t : ℕ) (old new : State) : Type 0 where
   pub queued : List QueuedRequest
-  pub slice : slice_of t new ≡ option_map (joined queued) (slice_of t old)
+  pub slice : slice_of t new ≡ option_map (with_requests queued) (slice_of t old)
   pub job : job_at t new ≡ job_at t old
 
 -- what a turn is to its tenant
@@ -45,12 +45,12 @@ pub record IsOwnTurn (t : ℕ) (told : Told) (old new : State) : Type 0 where
 abbrev pub Sees : ℕ → Event → Told → State → State → Type 0
 Sees t event told old new = (Stays t old new × (turn_in t event ≡ 0)) ⊎ (IsOwnTurn t told old new × (turn_in t event ≡ 1))
 
-joined-none : (slice : Option Slice) → slice ≡ option_map (joined []) slice
-joined-none None = refl
-joined-none (Some (world, queue)) = ap (λ (q : Queue). let s : Option Slice = Some (world, q) in s) (sym (append-nil queue))
+with_requests-none : (slice : Option Slice) → slice ≡ option_map (with_requests []) slice
+with_requests-none None = refl
+with_requests-none (Some (world, queue)) = ap (λ (q : Queue). let s : Option Slice = Some (world, q) in s) (sym (append-nil queue))
 
 rests : (t : ℕ) (old new : State) → slice_of t new ≡ slice_of t old → job_at t new ≡ job_at t old → Stays t old new
-rests t old new slice job = record { queued = []; slice = slice ∙ joined-none (slice_of t old); job = job }
+rests t old new slice job = record { queued = []; slice = slice ∙ with_requests-none (slice_of t old); job = job }
 
 hears : (t c : ℕ) (told : Told) (taken : Taken) (old new : State) → Enters c told taken old new → KeepsJobs old new → Stays t old new
 hears t c told taken old new h jobs = record { queued = entering (keys_of old) c taken t; slice = h.slices t; job = jobs t }
@@ -89,23 +89,23 @@ event_seen t (Turn u) step old new h =
 
 -- the job after a turn of a tenant for which this request waits first
 job_then : (t : ℕ) (told : Told) (old new : State) (first : QueuedRequest) (rest : List QueuedRequest) (reply : Option Tell) → TurnsJob t told old new → queue_at t old ≡ Some (first ∷ rest) → told.reply ≡ reply
-    → job_at t new ≡ job_after first.request reply (spent_in told) (job_at t old)
+    → job_at t new ≡ job_after first.request reply (spent_as_told told) (job_at t old)
 job_then t told old new first rest reply job waits reply_is =
     job.job_is
     ∙ ap (λ (q : Option Queue). job_after_turn (option_and_then first_of q) told (job_at t old)) waits
-    ∙ ap (λ r. job_after first.request r (spent_in told) (job_at t old)) reply_is
+    ∙ ap (λ r. job_after first.request r (spent_as_told told) (job_at t old)) reply_is
 
 -- the same after one in which nothing is told
 had_then : (t : ℕ) (told : Told) (old new : State) (first : QueuedRequest) (rest : List QueuedRequest) → TurnsJob t told old new → queue_at t old ≡ Some (first ∷ rest) → told.reply ≡ None
-    → had_by (job_at t new) ≡ one_turn_more (had_by (job_at t old)) (spent_in told)
+    → had_by (job_at t new) ≡ one_turn_more (had_by (job_at t old)) (spent_as_told told)
 had_then t told old new first rest job waits silent = ap had_by (job_then t told old new first rest None job waits silent)
 
 -- what it may have had then
 may_have : (t : ℕ) (told : Told) (old : State) (world : World) (first : QueuedRequest) (rest : List QueuedRequest) → TurnSpends (slice_of t old) (job_at t old) told → slice_of t old ≡ Some (world, first ∷ rest) → told.reply ≡ None
-    → MayHaveHad world first.request (one_turn_more (had_by (job_at t old)) (spent_in told))
+    → MayHaveHad world first.request (one_turn_more (had_by (job_at t old)) (spent_as_told told))
 may_have t told old world first rest spends is silent =
     let waits : TurnSpends (Some (world, first ∷ rest)) (job_at t old) told = subst (λ (s : Option Slice). TurnSpends s (job_at t old) told) is spends in
-    subst (λ (r : Option Tell). MatchOption r (MayHaveHad world first.request (one_turn_more (had_by (job_at t old)) (spent_in told))) (λ (tell : Tell). Charges world first.request tell.reply (spent_on (job_at t old)) (spent_in told))) silent waits
+    subst (λ (r : Option Tell). MatchOption r (MayHaveHad world first.request (one_turn_more (had_by (job_at t old)) (spent_as_told told))) (λ (tell : Tell). Charges world first.request tell.reply (spent_on (job_at t old)) (spent_as_told told))) silent waits
 
 -- the turns after a turn without a reply are fewer than the bound
 turns_left : (t : ℕ) (told : Told) (old new : State) (world : World) (first : QueuedRequest) (rest : List QueuedRequest) → IsOwnTurn t told old new → slice_of t old ≡ Some (world, first ∷ rest) → told.reply ≡ None
@@ -138,7 +138,7 @@ none_then (x ∷ xs) ys none = absurd cc
 -- a reply that a tenant is told in its turn is told to it
 told_one : (t : ℕ) (told : Told) (tell : Tell) → told.reply ≡ Some tell → tell.tenant ≡ Some t → told_if t told.reply ≡ tell ∷ []
 told_one t told tell is of_tenant =
-    ap (told_if t) is ∙ ap (λ p. if is_of t p then tell ∷ [] else []) of_tenant ∙ ap (λ b. if b then tell ∷ [] else []) (eq-eqb t t refl)
+    ap (told_if t) is ∙ ap (λ p. if is_this_tenant t p then tell ∷ [] else []) of_tenant ∙ ap (λ b. if b then tell ∷ [] else []) (eq-eqb t t refl)
 
 one_not_none : {X : Type 0} {x : X} {xs : List X} → xs ≡ x ∷ [] → xs ≡ [] → ⊥
 one_not_none one none = cc
@@ -162,7 +162,7 @@ module _ (t : ℕ) (event : Event) (events : List Event) (step : Effect) (old mi
   one_stays : Stays t old mid × (turn_in t event ≡ 0) → turns_had t old + (turn_in t event + own_turns t events) < most_turns world (plain_request_of first.request)
   one_stays (h, none) =
       let had : turns_had t mid ≡ turns_had t old = ap (λ (job : Option TenantJob). (had_by job).turns) h.job in
-      let waits : slice_of t mid ≡ Some (world, first ∷ (rest ++ h.queued)) = h.slice ∙ ap (option_map (joined h.queued)) is in
+      let waits : slice_of t mid ≡ Some (world, first ∷ (rest ++ h.queued)) = h.slice ∙ ap (option_map (with_requests h.queued)) is in
       still-fewer (turns_had t old) (turns_had t mid) (turn_in t event) (own_turns t events) _ had none
       (goes_on (rest ++ h.queued) waits (subst (λ n. n < most_turns world (plain_request_of first.request)) (sym had) left)
       (still-low (turns_had t old) (turns_had t mid) (turn_in t event) (own_turns t events) had none low))
@@ -207,13 +207,13 @@ left_none (world, []) = refl
 left_none (world, first ∷ rest) = some-left _ _
 
 -- requests that come to wait after the others change nothing of that
-left_joined : (queued : List QueuedRequest) (slice : Slice) (job : Option TenantJob) → HasTurnsLeft slice job → HasTurnsLeft (joined queued slice) job
+left_joined : (queued : List QueuedRequest) (slice : Slice) (job : Option TenantJob) → HasTurnsLeft slice job → HasTurnsLeft (with_requests queued slice) job
 left_joined queued (world, []) job none = subst (HasTurnsLeft (world, queued)) (sym none) (left_none (world, queued))
 left_joined queued (world, first ∷ rest) job left = left
 
 left_stays : (t : ℕ) (old new : State) → Stays t old new → HasLeft t old → HasLeft t new
 left_stays t old new h left slice is =
-    let from = option_from (joined h.queued) (slice_of t old) slice (sym h.slice ∙ is) in
+    let from = option_from (with_requests h.queued) (slice_of t old) slice (sym h.slice ∙ is) in
     subst (HasTurnsLeft slice) (sym h.job)
     (subst (λ (s : Slice). HasTurnsLeft s (job_at t old)) from.2 (left_joined h.queued from.0 (job_at t old) (left from.0 from.1)))
 

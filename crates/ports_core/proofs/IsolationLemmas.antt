@@ -4,16 +4,17 @@ use Rattle.std.specs.Prelude.{map, if◌then◌else◌, option_map, unwrap_or}
 use Rattle.std.proofs.lemmas.List.Elements.{All-head, All-tail}
 use Rattle.std.proofs.lemmas.List.{nil_from_length}
 use Rattle.ports_http.specs.Messages.{ReplyMessage}
-use Rattle.ports_plain.specs.Plain.{PlainRequest, plain}
+use Rattle.ports_plain.specs.Requests.{PlainRequest}
+use Rattle.ports_plain.specs.Plain.{plain}
 use Rattle.ports_core.specs.declared.event.Event.{Event}
 use Rattle.ports_core.specs.declared.event.Tell.{Tell}
 use Rattle.ports_core.specs.declared.queue.QueuedRequest.{QueuedRequest}
 use Rattle.ports_core.specs.Effects.{Effect}
 use Rattle.mk_paths.specs.World.{World}
-use Rattle.ports_core.specs.Answering.{plain_request_of, plain_answer}
+use Rattle.ports_core.specs.Answers.{plain_request_of, plain_answer}
 use Rattle.ports_core.specs.Slices.{Slice, Queue}
 use Rattle.ports_core.specs.State.{State, world_at, queue_at, waiting_at}
-use Rattle.ports_core.specs.Telling.{is_failure}
+use Rattle.ports_core.specs.Tell.{is_failure}
 use Rattle.ports_core.specs.Plainly.{told_to, own_of, plain_world}
 use Rattle.ports_core.specs.Alike.{requests_of, replies_to}
 use Rattle.ports_core.specs.Isolation.{IsServedPlainly, NoneFails, EqualSlicesAreToldAlike}

@@ -3,19 +3,19 @@ use Rattle.std.proofs.Common.{◌≡◌, ℕ, zero, suc, List, [], ◌∷◌, �
 use Rattle.std.specs.Prelude.{IfSome, IfNone, slice_get, option_map, option_and_then, replicate}
 use Rattle.std.proofs.Math.ListN.{set}
 use Rattle.std.proofs.lemmas.Bool.{cases_eq}
-use Rattle.ports_index.specs.declared.spending.Spent.{Spent}
+use Rattle.ports_index.specs.declared.spent.Spent.{Spent}
 use Rattle.ports_http.specs.Messages.{RequestMessage}
 use Rattle.ports_plain.specs.declared.questions.Question.{Question}
 use Rattle.ports_plain.specs.Questions.{question_of}
 use Rattle.ports_core.specs.declared.event.Tell.{Tell}
 use Rattle.ports_core.specs.declared.event.Told.{Told}
 use Rattle.ports_core.specs.declared.queue.QueuedRequest.{QueuedRequest}
-use Rattle.ports_core.specs.Answering.{plain_request_of}
+use Rattle.ports_core.specs.Answers.{plain_request_of}
 use Rattle.ports_core.specs.Jobs.{TenantJob, job_in, first_of, asked_first, IsForRequest, IsForFirst, AreForFirst, job_after, BecomesJob}
 use Rattle.ports_core.specs.JobChanges.{job_after_turn}
 use Rattle.ports_core.specs.Slices.{Queue}
-use Rattle.ports_core.specs.Taking.{Taken, Joins, entering}
-use Rattle.ports_core.specs.Telling.{spent_in}
+use Rattle.ports_core.specs.Intake.{Taken, Joins, entering}
+use Rattle.ports_core.specs.Tell.{spent_as_told}
 use Rattle.ports_core.proofs.Lists.{none_some, some_same, option_from, slice_get-set_other}
 
 -- where there is no first request, nothing waits
@@ -109,7 +109,7 @@ idle_job t told queues queue jobs was empty are =
 
 -- what work leaves of the job for the first request is what the turn does
 pub turn_job : (t : ℕ) (told : Told) (queues : List Queue) (queue : Queue) (first : QueuedRequest) (reply : Option Tell) (spent : Spent) (jobs jobs_after : List (Option TenantJob))
-    → slice_get queues t ≡ Some queue → Some first ≡ first_of queue → told.reply ≡ reply → spent_in told ≡ spent
+    → slice_get queues t ≡ Some queue → Some first ≡ first_of queue → told.reply ≡ reply → spent_as_told told ≡ spent
     → BecomesJob t (job_after first.request reply spent (job_in t jobs)) jobs jobs_after
     → BecomesJob t (job_after_turn (option_and_then first_of (slice_get queues t)) told (job_in t jobs)) jobs jobs_after
 turn_job t told queues queue first reply spent jobs jobs_after was first_is reply_is spent_is becomes =

@@ -8,7 +8,7 @@ use Rattle.general_facts.specs.Options.{None_from_is_none}
 use Rattle.std.proofs.Math.Bool.{and-false}
 use Rattle.ports_http.specs.Messages.{RequestMessage, ReplyMessage}
 use Rattle.ports_http.specs.Limits.{unread_limit}
-use Rattle.ports_http.specs.Incoming.{room_of}
+use Rattle.ports_http.specs.UnreadBytes.{room_of}
 use Rattle.ports_http.specs.Replies.{reply_text}
 use Rattle.ports_core.specs.declared.connection.Connection.{Connection}
 use Rattle.ports_core.specs.declared.event.Event.{Event}
@@ -17,10 +17,10 @@ use Rattle.ports_core.specs.declared.event.Tell.{Tell}
 use Rattle.ports_core.specs.declared.event.Refused.{Refused}
 use Rattle.ports_core.specs.declared.queue.QueuedRequest.{QueuedRequest}
 use Rattle.ports_core.specs.Effects.{Effect}
-use Rattle.ports_core.specs.Slices.{Slice, waiting_of, joined}
-use Rattle.ports_core.specs.Connections.{new_connection, hears, answered, kept, is_done, is_ready, is_empty, room_on, count_off, Fits}
-use Rattle.ports_core.specs.Telling.{in_turn}
-use Rattle.ports_core.specs.Taking.{Taken, Nothing, TakesOff, TakesNext, refused_at_once, connection_after, entering}
+use Rattle.ports_core.specs.Slices.{Slice, waiting_of, with_requests}
+use Rattle.ports_core.specs.Connections.{new_connection, hears, answered, kept, is_done, is_ready, is_empty, room_on, count_off, MayHappenTo}
+use Rattle.ports_core.specs.Tell.{in_turn}
+use Rattle.ports_core.specs.Intake.{Taken, Nothing, TakesOff, TakesNext, refused_at_once, connection_after, entering}
 use Rattle.ports_core.specs.Opened.{OpenAnd, KeepsConnections, KeepsOthers}
 use Rattle.ports_core.specs.Books.{HearsOn, TellsOn, BookTurns}
 use Rattle.ports_core.specs.State.{State, keys_of, slice_of, connection_of, book_of, next_of, IsAllowed}
@@ -76,7 +76,7 @@ lost_hears (Wrote c (Some count)) connection is = record { lost = is.lost; pendi
 lost_hears (Turn t) connection is = is
 
 -- no bytes come on it
-no_bytes_come : (c d : ℕ) (bytes : Vec ℕ Global) (connection : Connection) → IsLostConnection connection → Fits (Piece d bytes) connection → came_in c (Piece d bytes) ≡ []
+no_bytes_come : (c d : ℕ) (bytes : Vec ℕ Global) (connection : Connection) → IsLostConnection connection → MayHappenTo (Piece d bytes) connection → came_in c (Piece d bytes) ≡ []
 no_bytes_come c d bytes connection is fits =
     let no_room : room_on connection ≡ 0 = ap (λ b. if b then 0 else room_of connection.stream) fits.0 ∙ ap (λ b. if b then 0 else unread_limit - length connection.stream.unread) is.over in
     if_nil (d == c) bytes.items (no_length bytes.items (subst (λ n. length bytes.items ≤ n) no_room fits.1))
@@ -124,13 +124,13 @@ module _ (keys : List (List ℕ)) (Plain : ℕ → QueuedRequest → ReplyMessag
   })
 
   -- it hears something
-  lost_heard : (taken : Taken) (came sent : List ℕ) (tells : List Tell) → OpenAnd (connection_of c old) (Fits event)
-      → ((connection : Connection) → connection_of c old ≡ Some connection → IsLostConnection connection → Fits event connection → (came_in c event ≡ []) × (sent_in c event step ≡ []))
-      → HearsOn (keys_of old) event c step.told taken (book_of old) (book_of mid) → ((u : ℕ) → slice_of u mid ≡ option_map (joined (entering (keys_of old) c taken u)) (slice_of u old)) → next_of old ≤ next_of mid
+  lost_heard : (taken : Taken) (came sent : List ℕ) (tells : List Tell) → OpenAnd (connection_of c old) (MayHappenTo event)
+      → ((connection : Connection) → connection_of c old ≡ Some connection → IsLostConnection connection → MayHappenTo event connection → (came_in c event ≡ []) × (sent_in c event step ≡ []))
+      → HearsOn (keys_of old) event c step.told taken (book_of old) (book_of mid) → ((u : ℕ) → slice_of u mid ≡ option_map (with_requests (entering (keys_of old) c taken u)) (slice_of u old)) → next_of old ≤ next_of mid
       → ConversesLost keys Plain c came sent tells old → ConversesLost keys Plain c (came ++ came_in c event) (sent ++ sent_in c event step) (tells ++ told_in c step.told.reply) mid
   lost_heard taken came sent tells allowed silent h enters next is =
       let at : LostAt (Some h.connection) is.waits = subst (λ (o : Option Connection). LostAt o is.waits) h.was_open is.at in
-      let fits : Fits event h.connection = subst (λ (o : Option Connection). OpenAnd o (Fits event)) h.was_open allowed in
+      let fits : MayHappenTo event h.connection = subst (λ (o : Option Connection). OpenAnd o (MayHappenTo event)) h.was_open allowed in
       let heard : IsLostConnection (hears event h.connection) = lost_hears event h.connection at.0 in
       let quiet = silent h.connection h.was_open at.0 fits in
       let none = lost_taken (keys_of old) c taken step.told.reply (hears event h.connection) h.after heard h.takes in
@@ -143,7 +143,7 @@ module _ (keys : List (List ℕ)) (Plain : ℕ → QueuedRequest → ReplyMessag
         request = is.request;
         at = subst (λ w. LostAt (connection_of c mid) w) (hears_waits event h.connection ∙ at.1) kept_at;
         queued = λ u slice was.
-            let from = option_from (joined (entering (keys_of old) c taken u)) (slice_of u old) slice (sym (enters u) ∙ was) in
+            let from = option_from (with_requests (entering (keys_of old) c taken u)) (slice_of u old) slice (sym (enters u) ∙ was) in
             ap (λ (s : Slice). queued_requests_of c (waiting_of s)) (sym from.2)
             ∙ ap (λ k. queued_requests_of c (waiting_of from.0 ++ entering (keys_of old) c k u)) none.0
             ∙ ap (queued_requests_of c) (append-nil (waiting_of from.0)) ∙ is.queued u from.0 from.1;
@@ -225,10 +225,10 @@ abbrev pub LostMoves : List (List ℕ) → (ℕ → QueuedRequest → ReplyMessa
 LostMoves keys Plain c event step old mid = (came sent : List ℕ) (tells : List Tell) → ConversesLost keys Plain c came sent tells old
     → ConversesLost keys Plain c (came ++ came_in c event) (sent ++ sent_in c event step) (tells ++ told_in c step.told.reply) mid
 
-lost_heard_by : (keys : List (List ℕ)) (Plain : ℕ → QueuedRequest → ReplyMessage → Type 0) (c d : ℕ) (event : Event) (step : Effect) (taken : Taken) (old mid : State) → OpenAnd (connection_of d old) (Fits event)
-    → ((connection : Connection) → connection_of d old ≡ Some connection → IsLostConnection connection → Fits event connection → (came_in d event ≡ []) × (sent_in d event step ≡ []))
+lost_heard_by : (keys : List (List ℕ)) (Plain : ℕ → QueuedRequest → ReplyMessage → Type 0) (c d : ℕ) (event : Event) (step : Effect) (taken : Taken) (old mid : State) → OpenAnd (connection_of d old) (MayHappenTo event)
+    → ((connection : Connection) → connection_of d old ≡ Some connection → IsLostConnection connection → MayHappenTo event connection → (came_in d event ≡ []) × (sent_in d event step ≡ []))
     → (d ≢ c → came_in c event ≡ []) → (d ≢ c → sent_in c event step ≡ [])
-    → HearsOn (keys_of old) event d step.told taken (book_of old) (book_of mid) → ((u : ℕ) → slice_of u mid ≡ option_map (joined (entering (keys_of old) d taken u)) (slice_of u old)) → next_of old ≤ next_of mid
+    → HearsOn (keys_of old) event d step.told taken (book_of old) (book_of mid) → ((u : ℕ) → slice_of u mid ≡ option_map (with_requests (entering (keys_of old) d taken u)) (slice_of u old)) → next_of old ≤ next_of mid
     → LostMoves keys Plain c event step old mid
 lost_heard_by keys Plain c d event step taken old mid allowed silent no_bytes none_sent h enters next =
     ⊎_elim (λ same. subst (λ n. LostMoves keys Plain n event step old mid) same (λ came sent tells. lost_heard keys Plain d event step old mid taken came sent tells allowed silent h enters next))

@@ -6,7 +6,7 @@ use Rattle.ports_http.specs.declared.fault.HeadFault.{HeadFault}
 use Rattle.ports_http.specs.declared.fault.HeadFault.TheVariants as fault
 use Rattle.ports_http.specs.Messages.{RequestMessage, ReplyMessage}
 use Rattle.ports_http.specs.Streams.{Waits}
-use Rattle.ports_http.specs.Incoming.{Incoming, behind, Removes}
+use Rattle.ports_http.specs.UnreadBytes.{Incoming, behind, Removes}
 use Rattle.ports_http.specs.Replies.{reply_text, fault_status, fault_reply, unknown_key, store_failed}
 use Rattle.ports_http.proofs.StreamLaws.{one_request, request_not_waits, request_not_refused}
 use Rattle.ports_core.specs.declared.connection.Connection.{Connection}
@@ -19,8 +19,8 @@ use Rattle.ports_core.specs.declared.queue.QueuedRequest.{QueuedRequest}
 use Rattle.ports_core.specs.Effects.{Effect}
 use Rattle.ports_core.specs.Keys.{tenant_of}
 use Rattle.ports_core.specs.Connections.{new_connection, hears, answered, kept, is_ready, with_pending}
-use Rattle.ports_core.specs.Telling.{at_once}
-use Rattle.ports_core.specs.Taking.{Taken, Nothing, Whole, Refusal, Lost, TakesOff, IsTaken, told_of_tenant, refused_at_once, connection_after, entering}
+use Rattle.ports_core.specs.Tell.{at_once}
+use Rattle.ports_core.specs.Intake.{Taken, Nothing, Whole, Refusal, Lost, TakesOff, IsTaken, told_of_tenant, refused_at_once, connection_after, entering}
 use Rattle.ports_core.specs.Opened.{Book, KeepsConnections, KeepsOthers}
 use Rattle.ports_core.specs.Books.{HearsOn, TellsOn, BookStep, conn_of, TakesIn, OneListIsTaken}
 use Rattle.ports_core.proofs.Lists.{none_some, some_same}

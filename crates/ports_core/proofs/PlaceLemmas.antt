@@ -8,7 +8,7 @@ use Rattle.std.proofs.lemmas.Map.Entries.{lookup_head, lookup_tail}
 use Rattle.std.proofs.lemmas.Option.{slice_get_cases, unwrap_or-slice_get}
 use Rattle.general_facts.specs.Options.{None_from_is_none}
 use Rattle.ports_http.specs.Messages.{RequestMessage, ReplyMessage}
-use Rattle.ports_http.specs.Incoming.{Incoming}
+use Rattle.ports_http.specs.UnreadBytes.{Incoming}
 use Rattle.ports_core.specs.declared.connection.Connection.{Connection}
 use Rattle.ports_core.specs.declared.event.Event.{Event}
 use Rattle.ports_core.specs.declared.event.Event.TheVariants.{Open, Piece, End, Fault, Wrote, Turn}
@@ -17,7 +17,7 @@ use Rattle.ports_core.specs.declared.queue.QueuedRequest.{QueuedRequest}
 use Rattle.ports_core.specs.Keys.{tenant_of}
 use Rattle.ports_core.specs.Slices.{Queue}
 use Rattle.ports_core.specs.Connections.{hears, answered, kept, is_done, is_ready}
-use Rattle.ports_core.specs.Taking.{Taken, Nothing, Whole, Refusal, Lost, TakesOff, IsTaken, connection_with, connection_after, entering_of, entering, Joins}
+use Rattle.ports_core.specs.Intake.{Taken, Nothing, Whole, Refusal, Lost, TakesOff, IsTaken, connection_with, connection_after, entering_of, entering, Joins}
 use Rattle.ports_core.specs.Opened.{connection_in, book_in, OpenAnd}
 use Rattle.ports_core.specs.Books.{HearsOn}
 use Rattle.ports_core.specs.Places.{HasPlace, count_from, may_wait, may_wait_on, AreSeated}

@@ -7,14 +7,14 @@ use Rattle.ports_core.specs.declared.event.Event.{Event}
 use Rattle.ports_core.specs.declared.queue.QueuedRequest.{QueuedRequest}
 use Rattle.ports_core.specs.Effects.{Effect}
 use Rattle.mk_paths.specs.World.{opening_world}
-use Rattle.ports_core.specs.Answering.{plain_answer}
+use Rattle.ports_core.specs.Answers.{plain_answer}
 use Rattle.ports_core.specs.Slices.{Slice, new_slice}
 use Rattle.ports_core.specs.Sharing.{Sizes}
 use Rattle.ports_core.specs.State.{State, new_state, keys_of, book_of, IsAllowed}
 use Rattle.ports_core.specs.Runs.{Run, Happens}
 use Rattle.ports_core.specs.Books.{TakesIn}
-use Rattle.ports_core.specs.Telling.{is_failure}
-use Rattle.ports_core.specs.Plainly.{is_of, told_if, told_to, own_of, plain_world}
+use Rattle.ports_core.specs.Tell.{is_failure}
+use Rattle.ports_core.specs.Plainly.{is_this_tenant, told_if, told_to, own_of, plain_world}
 use Rattle.ports_core.specs.Conversations.{IsPlainOr503}
 use Rattle.ports_core.proofs.Lists.{some_same}
 use Rattle.ports_core.proofs.Serving.{answered_plainly, answer-fine}
@@ -47,7 +47,7 @@ module _ (keys : List (List ℕ)) (sizes : Sizes) (before events : List Event) (
       let plainly = answered_plainly opening_world (new_slice.1 ++ first_part.taken) (told_to t before_steps) first_part.last.0 first_part.last.1 first_part.serves in
       let waits : first_part.last.1 ≡ h.first ∷ h.rest = ap (λ (s : Slice). s.1) slice_is ∙ h.waited in
       let told_is : told_if t step.told.reply ≡ h.tell ∷ [] =
-      ap (told_if t) h.told_is ∙ ap (λ p. if is_of t p then h.tell ∷ [] else []) h.of_tenant ∙ ap (λ b. if b then h.tell ∷ [] else []) (eq-eqb t t refl) in
+      ap (told_if t) h.told_is ∙ ap (λ p. if is_this_tenant t p then h.tell ∷ [] else []) h.of_tenant ∙ ap (λ b. if b then h.tell ∷ [] else []) (eq-eqb t t refl) in
       let later : List QueuedRequest = own_of (h.rest ++ second_part.taken) (told_to t steps) in
       let own : own_of (first_part.taken ++ second_part.taken) (told_to t (before_steps ++ step ∷ steps))
       ≡ plainly.answered ++ (if is_failure h.tell.reply.status then later else h.first ∷ later) =

@@ -6,7 +6,7 @@ use Rattle.ports_http.specs.Messages.{RequestMessage}
 use Rattle.ports_core.specs.declared.queue.QueuedRequest.{QueuedRequest}
 use Rattle.ports_core.specs.Keys.{tenant_of}
 use Rattle.ports_core.specs.Slices.{Queue}
-use Rattle.ports_core.specs.Taking.{Taken, Nothing, Whole, Refusal, Lost, entering_of, entering}
+use Rattle.ports_core.specs.Intake.{Taken, Nothing, Whole, Refusal, Lost, entering_of, entering}
 use Rattle.ports_core.proofs.Numbers.{other_number}
 
 -- those of a connection

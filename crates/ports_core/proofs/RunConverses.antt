@@ -6,7 +6,7 @@ use Rattle.std.proofs.lemmas.Bool.{cases_eq, false≢true}
 use Rattle.std.proofs.Math.Bool.{or-false, or_assoc}
 use Rattle.ports_http.specs.Messages.{RequestMessage, ReplyMessage}
 use Rattle.ports_http.specs.Streams as streams
-use Rattle.ports_http.specs.Incoming.{opening}
+use Rattle.ports_http.specs.UnreadBytes.{opening_stream}
 use Rattle.ports_core.specs.declared.connection.Connection.{Connection}
 use Rattle.ports_core.specs.declared.event.Event.{Event}
 use Rattle.ports_core.specs.declared.event.Event.TheVariants.{Open, Piece, End, Fault, Wrote, Turn}
@@ -17,8 +17,8 @@ use Rattle.ports_core.specs.Slices.{Queue, waiting_of}
 use Rattle.ports_core.specs.Sharing.{Sizes}
 use Rattle.ports_core.specs.State.{State, new_state, keys_of, world_at, queue_at, connection_of, pending_at}
 use Rattle.ports_core.specs.Runs.{Run}
-use Rattle.ports_core.specs.Taking.{Nothing, TakesOff}
-use Rattle.ports_core.specs.Conversations.{came_in, came_on, sent_in, sent_on, told_in, told_on, loses, is_lost_in, written, refusal_written, IsLeft, IsServedOut, WaitsFor, IsPlainOr503, AreWritten, ConversesPlainly, EachConnectionConverses}
+use Rattle.ports_core.specs.Intake.{Nothing, TakesOff}
+use Rattle.ports_core.specs.Conversations.{came_in, came_on, sent_in, sent_on, told_in, told_on, loses, is_lost_in, written, refusal_written, IsLeftOfConnection, IsServedOut, WaitsFor, IsPlainOr503, AreWritten, ConversesPlainly, EachConnectionConverses}
 use Rattle.ports_core.proofs.Numbers.{other_number}
 use Rattle.ports_core.proofs.Lists.{none_some, some_same}
 use Rattle.ports_core.proofs.QueueLemmas.{queued_requests_of}
@@ -95,8 +95,8 @@ new_queue (key ∷ keys) (suc u) queue was = new_queue keys u queue was
 begins : (keys : List (List ℕ)) (sizes : Sizes) (Plain : ℕ → QueuedRequest → ReplyMessage → Type 0) (c : ℕ) → Stands keys Plain c [] [] [] (new_state keys sizes)
 begins keys sizes Plain c = inr (record {
   at = refl;
-  left = opening;
-  talk = none_came keys Plain c [] [] [] opening refl refl refl refl;
+  left = opening_stream;
+  talk = none_came keys Plain c [] [] [] opening_stream refl refl refl refl;
   fresh = λ above. (refl, refl);
   idle = λ some. absurd (some refl);
   queued = λ u slice was. ap (queued_requests_of c) (new_queue keys u (waiting_of slice) (slice_parts (world_at u (new_state keys sizes)) (queue_at u (new_state keys sizes)) slice was).1);
@@ -118,7 +118,7 @@ module _ (keys : List (List ℕ)) (c : ℕ) (events : List Event) (steps : List 
     waits = is.is_connection.waiting;
     cut = is.is_connection.talk.cut;
     served = λ goes some. subst (λ o. IsServedOut o is.is_connection.talk.end) (sym is.at) (is.idle some);
-    stays = subst (λ (o : Option Connection). IsLeft keys o is.is_connection.waiting is.is_connection.talk.end) (sym is.at) (λ here. is.is_connection.talk.left_is, waits_for keys is.connection.waits is.is_connection.waiting is.connection.pending is.connection.stream.over is.is_connection.holds);
+    stays = subst (λ (o : Option Connection). IsLeftOfConnection keys o is.is_connection.waiting is.is_connection.talk.end) (sym is.at) (λ here. is.is_connection.talk.left_is, waits_for keys is.connection.waits is.is_connection.waiting is.connection.pending is.connection.stream.over is.is_connection.holds);
   }
   alive_converses alive (inr is) = record {
     exchanges = is.talk.exchanges;
@@ -129,7 +129,7 @@ module _ (keys : List (List ℕ)) (c : ℕ) (events : List Event) (steps : List 
     waits = [];
     cut = is.talk.cut;
     served = λ goes some. subst (λ o. IsServedOut o is.talk.end) (sym is.at) (subst (λ s. TakesOff s Nothing s) is.talk.left_is (is.idle some));
-    stays = subst (λ (o : Option Connection). IsLeft keys o [] is.talk.end) (sym is.at) refl;
+    stays = subst (λ (o : Option Connection). IsLeftOfConnection keys o [] is.talk.end) (sym is.at) refl;
   }
 
   -- nothing is pending on a lost connection
@@ -137,7 +137,7 @@ module _ (keys : List (List ℕ)) (c : ℕ) (events : List Event) (steps : List 
   lost_pending None waits at = refl
   lost_pending (Some connection) waits at = at.0.pending
 
-  lost_left : (o : Option Connection) (waits : Option ℕ) (waiting : List RequestMessage) (end : streams.End) → LostAt o waits → WaitsFor keys waits waiting → IsLeft keys o waiting end
+  lost_left : (o : Option Connection) (waits : Option ℕ) (waiting : List RequestMessage) (end : streams.End) → LostAt o waits → WaitsFor keys waits waiting → IsLeftOfConnection keys o waiting end
   lost_left None waits waiting end at request = subst (λ w. WaitsFor keys w waiting) at request
   lost_left (Some connection) waits waiting end at request = (λ here. absurd (false≢true (sym here ∙ at.0.lost)), subst (λ w. WaitsFor keys w waiting) (sym at.1) request)
 

@@ -2,7 +2,7 @@
 use Rattle.std.proofs.Common.{◌≡◌, ◌<◌, ◌≤◌, ◌+◌, ◌^◌, ◌==◌, ℕ, Bool, true, false, List, [], ◌∷◌, ◌++◌, length, Option, Some, None, ap, ◌∙◌, inl, inr, arith}
 use Rattle.std.specs.Prelude.{if◌then◌else◌, option_and_then}
 use Rattle.std.proofs.lemmas.List.{length-append}
-use Rattle.ports_index.specs.declared.spending.Spent.{Spent}
+use Rattle.ports_index.specs.declared.spent.Spent.{Spent}
 use Rattle.ports_http.specs.Messages.{RequestMessage}
 use Rattle.ports_core.specs.declared.event.Event.{Event}
 use Rattle.ports_core.specs.declared.event.Event.TheVariants.{Open, Piece, End, Fault, Wrote, Turn}
@@ -12,7 +12,7 @@ use Rattle.ports_core.specs.declared.queue.QueuedRequest.{QueuedRequest}
 use Rattle.ports_core.specs.Effects.{Effect}
 use Rattle.ports_core.specs.Jobs.{TenantJob, had_by, first_of, job_after}
 use Rattle.ports_core.specs.JobChanges.{job_after_turn}
-use Rattle.ports_core.specs.Telling.{spent_in}
+use Rattle.ports_core.specs.Tell.{spent_as_told}
 use Rattle.ports_core.specs.State.{State, new_state, queue_at, job_at}
 use Rattle.ports_core.specs.Runs.{Run}
 use Rattle.ports_core.specs.InTime.{turn_in, own_turns, turns_had, EachRunIsToldInTime}
@@ -27,7 +27,7 @@ had_then request (Some tell) spent job = omega arith
 had_after : (first : Option QueuedRequest) (told : Told) (job : Option TenantJob)
     → (had_by (job_after_turn first told job)).turns ≤ (had_by job).turns + 1
 had_after None told job = omega arith
-had_after (Some first) told job = had_then first.request told.reply (spent_in told) job
+had_after (Some first) told job = had_then first.request told.reply (spent_as_told told) job
 
 -- so does an event
 had_once : (t : ℕ) (event : Event) (told : Told) (old mid : State) → Sees t event told old mid → turns_had t mid ≤ turns_had t old + 1

@@ -5,12 +5,12 @@ use Rattle.ports_core.specs.declared.event.Event.{Event}
 use Rattle.ports_core.specs.declared.queue.QueuedRequest.{QueuedRequest}
 use Rattle.ports_core.specs.Effects.{Effect}
 use Rattle.mk_paths.specs.World.{World, opening_world}
-use Rattle.ports_core.specs.Answering.{plain_answer}
+use Rattle.ports_core.specs.Answers.{plain_answer}
 use Rattle.ports_core.specs.Slices.{Slice, Queue, new_slice, sliced}
 use Rattle.ports_core.specs.Sharing.{Sizes}
 use Rattle.ports_core.specs.State.{State, new_state, keys_of, world_at, queue_at, slice_of, book_of}
 use Rattle.ports_core.specs.Runs.{Run}
-use Rattle.ports_core.specs.Taking.{entering}
+use Rattle.ports_core.specs.Intake.{entering}
 use Rattle.ports_core.specs.Books.{TakesIn, conn_of}
 use Rattle.ports_core.specs.Plainly.{told_to, plain_run, IsToldPlainly}
 use Rattle.ports_core.specs.Isolation.{EachRunServesPlainly}

@@ -6,8 +6,8 @@ use Rattle.ports_core.specs.declared.queue.QueuedRequest.{QueuedRequest}
 use Rattle.ports_http.specs.Messages.{RequestMessage, ReplyMessage}
 use Rattle.ports_plain.specs.Plain.{Served}
 use Rattle.mk_paths.specs.World.{World}
-use Rattle.ports_core.specs.Answering.{Answers, plain_request_of, plain_answer}
-use Rattle.ports_core.specs.Telling.{is_failure}
+use Rattle.ports_core.specs.Answers.{AnswersRequest, plain_request_of, plain_answer}
+use Rattle.ports_core.specs.Tell.{is_failure}
 use Rattle.ports_core.specs.Plainly.{answers_of, own_of, plain_run, plain_world}
 use Rattle.ports_plain.proofs.NeverFails.{never_503}
 
@@ -16,7 +16,7 @@ abbrev pub Serves : World → List QueuedRequest → List Tell → World → Lis
 Serves world queued_requests [] last rest = (last ≡ world) × (rest ≡ queued_requests)
 Serves world [] (tell ∷ tells) last rest = ⊥
 Serves world (queued_request ∷ queued_requests) (tell ∷ tells) last rest =
-    (mid : World) × (tell.conn ≡ queued_request.conn) × Answers world queued_request.request tell.reply mid × Serves mid queued_requests tells last rest
+    (mid : World) × (tell.conn ≡ queued_request.conn) × AnswersRequest world queued_request.request tell.reply mid × Serves mid queued_requests tells last rest
 
 -- the plain service fails nothing
 pub answer-fine : (world : World) (request : RequestMessage) (reply : ReplyMessage) (after : World) → plain_answer world request ≡ (reply, after) → is_failure reply.status ≡ false

@@ -9,19 +9,19 @@ use Rattle.ports_core.specs.declared.event.Event.{Event}
 use Rattle.ports_core.specs.declared.event.Told.{Told}
 use Rattle.ports_core.specs.declared.queue.QueuedRequest.{QueuedRequest}
 use Rattle.mk_paths.specs.World.{World, opening_world}
-use Rattle.ports_core.specs.Answering.{AnswersFor}
+use Rattle.ports_core.specs.Answers.{AnswersFor}
 use Rattle.ports_core.specs.Slices.{Queue}
 use Rattle.ports_core.specs.Jobs.{TenantJob, first_of}
-use Rattle.ports_core.specs.Connections.{new_connection, answered, kept, closing}
-use Rattle.ports_core.specs.Telling.{in_turn}
-use Rattle.ports_core.specs.Taking.{Taken, Joins}
+use Rattle.ports_core.specs.Connections.{new_connection, answered, kept, closing_number}
+use Rattle.ports_core.specs.Tell.{in_turn}
+use Rattle.ports_core.specs.Intake.{Taken, Joins}
 use Rattle.ports_core.specs.Opened.{connection_in, book_in}
 use Rattle.ports_core.specs.Books.{HearsOn}
 use Rattle.ports_core.specs.Sharing.{Sharing, Sizes, unused}
 use Rattle.ports_core.specs.State.{State, keys_of, new_state}
 use Rattle.ports_core.specs.Keys.{key_texts}
 use Rattle.ports_core.proofs.KeyLemmas.{length_texts}
-use Rattle.ports_core.specs.Steps.{IsOpened, Hears, IsIdle, IsPending, IsAnswered}
+use Rattle.ports_core.specs.Steps.{IsOpened, Hears, IsIdleTurn, IsPending, IsAnsweringTurn}
 use Rattle.ports_core.proofs.Lists.{slice_get-set_same, slice_get-set_other, map-same}
 use Rattle.ports_core.proofs.JobLemmas.{first_rest}
 
@@ -75,7 +75,7 @@ module _ (keys : List (List ℕ)) (next : ℕ) (jobs : List (Option TenantJob)) 
 
   pub idle : (t : ℕ) (told : Told) (worlds : List World) (queues : List Queue) (queue after : Queue) (connections : List (ℕ × Connection))
       → slice_get queues t ≡ Some queue → queue ≡ [] → after ≡ queue → told.reply ≡ None → told.refused ≡ None → told.closed ≡ None
-      → IsIdle t told (keys, worlds, queues, connections, next, jobs, shared) (keys, worlds, set queues t after, connections, next, jobs, shared)
+      → IsIdleTurn t told (keys, worlds, queues, connections, next, jobs, shared) (keys, worlds, set queues t after, connections, next, jobs, shared)
   idle t told worlds queues queue after connections was empty same reply refused closed = record {
     nothing_waits = was ∙ ap Some empty;
     reply = reply;
@@ -112,10 +112,10 @@ module _ (keys : List (List ℕ)) (next : ℕ) (jobs : List (Option TenantJob)) 
       → t < length queues → slice_get queues t ≡ Some queue → queue ≡ first ∷ rest
       → AnswersFor t first.request reply worlds worlds_after
       → connection_in first.conn mid ≡ option_map (answered reply) (connection_in first.conn connections) → ((d : ℕ) → d ≢ first.conn → connection_in d mid ≡ connection_in d connections)
-      → closed ≡ option_and_then (closing first.conn) (connection_in first.conn mid) → connection_in first.conn connections_after ≡ option_and_then kept (connection_in first.conn mid)
+      → closed ≡ option_and_then (closing_number first.conn) (connection_in first.conn mid) → connection_in first.conn connections_after ≡ option_and_then kept (connection_in first.conn mid)
       → ((d : ℕ) → d ≢ first.conn → connection_in d connections_after ≡ connection_in d mid)
       → told.reply ≡ Some (in_turn t first.conn reply) → told.refused ≡ None → told.closed ≡ closed
-      → IsAnswered t told (keys, worlds, queues, connections, next, jobs, shared) (keys, worlds_after, set queues t rest, connections_after, next, jobs_after, shared_after)
+      → IsAnsweringTurn t told (keys, worlds, queues, connections, next, jobs, shared) (keys, worlds_after, set queues t rest, connections_after, next, jobs_after, shared_after)
   answered_in_turn t told worlds worlds_after queues queue rest first reply closed connections mid connections_after jobs_after shared_after within was waited answers mid_is mid_others closed_is connection_is others told_is refused closed_told = record {
     first = first;
     rest = rest;
@@ -126,7 +126,7 @@ module _ (keys : List (List ℕ)) (next : ℕ) (jobs : List (Option TenantJob)) 
     answers = answers;
     reply = told_is;
     refused = refused;
-    closed = closed_told ∙ closed_is ∙ ap (option_and_then (closing first.conn)) mid_is;
+    closed = closed_told ∙ closed_is ∙ ap (option_and_then (closing_number first.conn)) mid_is;
     tells = record {
       connection_is = connection_is ∙ ap (option_and_then kept) mid_is;
       others = λ d ne. others d ne ∙ mid_others d ne;

@@ -9,20 +9,20 @@ use Rattle.ports_core.specs.declared.event.Told.{Told}
 use Rattle.ports_core.specs.declared.event.Tell.{Tell}
 use Rattle.ports_core.specs.declared.queue.QueuedRequest.{QueuedRequest}
 use Rattle.mk_paths.specs.World.{World}
-use Rattle.ports_core.specs.Answering.{Answers}
-use Rattle.ports_core.specs.Slices.{Slice, joined}
-use Rattle.ports_core.specs.Taking.{Taken, Nothing, entering}
+use Rattle.ports_core.specs.Answers.{AnswersRequest}
+use Rattle.ports_core.specs.Slices.{Slice, with_requests}
+use Rattle.ports_core.specs.Intake.{Taken, Nothing, entering}
 use Rattle.ports_core.specs.State.{State, keys_of, slice_of}
 use Rattle.ports_core.specs.Books.{conn_of}
 use Rattle.ports_core.specs.Changes.{KeepsSlices, Enters, FirstLeaves, ChangesSlices}
-use Rattle.ports_core.specs.Plainly.{is_of, told_if}
+use Rattle.ports_core.specs.Plainly.{is_this_tenant, told_if}
 use Rattle.ports_core.proofs.Lists.{some_same}
 use Rattle.ports_core.proofs.Serving.{Serves}
 
 -- what is told to no tenant
 to_no_tenant : (t : ℕ) (reply : Option Tell) → MatchOption reply (Unit {0}) (λ (tell : Tell). tell.tenant ≡ None) → told_if t reply ≡ []
 to_no_tenant t None none = refl
-to_no_tenant t (Some tell) none = ap (λ p. if is_of t p then tell ∷ [] else []) none
+to_no_tenant t (Some tell) none = ap (λ p. if is_this_tenant t p then tell ∷ [] else []) none
 
 -- what an event is to a tenant with that slice
 pub record IsServed (t : ℕ) (event : Event) (told : Told) (taken : Taken) (old new : State) (slice : Slice) : Type 0 where
@@ -55,8 +55,8 @@ enters_serve : (t c : ℕ) (event : Event) (told : Told) (taken : Taken) (old ne
 enters_serve t c event told taken old new slice of_conn h was =
     let queued_requests : List QueuedRequest = entering (keys_of old) c taken t in
     record {
-      next = joined queued_requests slice;
-      next_is = h.slices t ∙ ap (option_map (joined queued_requests)) was;
+      next = with_requests queued_requests slice;
+      next_is = h.slices t ∙ ap (option_map (with_requests queued_requests)) was;
       serves = λ more tells last rest s.
           quietly t c (keys_of old) told taken slice more tells last rest (slice.1 ++ (entering (keys_of old) (conn_of event) taken t ++ more)) (to_no_tenant t told.reply h.to_none)
           (subst (λ n. Serves slice.0 (slice.1 ++ (entering (keys_of old) n taken t ++ more)) tells last rest) (sym of_conn)
@@ -66,7 +66,7 @@ enters_serve t c event told taken old new slice of_conn h was =
 -- a turn that tells a reply
 module _ (t u : ℕ) (told : Told) (taken : Taken) (old new : State) (slice : Slice) (h : FirstLeaves u told taken old new) (was : slice_of t old ≡ Some slice) where
   tells_of : told_if t told.reply ≡ (if u == t then h.tell ∷ [] else [])
-  tells_of = ap (told_if t) h.told_is ∙ ap (λ p. if is_of t p then h.tell ∷ [] else []) h.of_tenant
+  tells_of = ap (told_if t) h.told_is ∙ ap (λ p. if is_this_tenant t p then h.tell ∷ [] else []) h.of_tenant
 
   own_turn : t ≡ u → IsServed t (Turn u) told taken old new slice
   own_turn same =
@@ -78,7 +78,7 @@ module _ (t u : ℕ) (told : Told) (taken : Taken) (old new : State) (slice : Sl
         next = (h.world, h.rest);
         next_is = ap (λ n. slice_of n new) same ∙ h.slice_is;
         serves = λ more tells last rest s.
-            let answers : Answers slice.0 h.first.request h.tell.reply h.world = subst (λ (k : Slice). Answers k.0 h.first.request h.tell.reply h.world) first_slice h.answers in
+            let answers : AnswersRequest slice.0 h.first.request h.tell.reply h.world = subst (λ (k : Slice). AnswersRequest k.0 h.first.request h.tell.reply h.world) first_slice h.answers in
             let all : Serves slice.0 ((h.first ∷ h.rest) ++ more) (h.tell ∷ tells) last rest = (h.world, h.to_asker, answers, s) in
             subst (λ k. Serves slice.0 (slice.1 ++ (entering (keys_of old) 0 k t ++ more)) (told_if t told.reply ++ tells) last rest) (sym h.nothing)
             (subst (λ ts. Serves slice.0 (slice.1 ++ more) (ts ++ tells) last rest) (sym tells_is) (subst (λ ws. Serves slice.0 (ws ++ more) (h.tell ∷ tells) last rest) (sym waits) all));

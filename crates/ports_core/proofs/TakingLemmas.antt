@@ -7,14 +7,14 @@ use Rattle.ports_http.specs.declared.fault.HeadFault.{HeadFault}
 use Rattle.ports_http.specs.Messages.{RequestMessage}
 use Rattle.ports_http.specs.declared.request.TakeError.{TakeError}
 use Rattle.ports_http.specs.declared.request.TakeError.TheVariants.{Memory}
-use Rattle.ports_http.specs.Incoming.{Incoming, TakesOrLoses}
+use Rattle.ports_http.specs.UnreadBytes.{Incoming, TakesOrLoses}
 use Rattle.ports_core.specs.declared.connection.Connection.{Connection}
 use Rattle.ports_core.specs.declared.event.Tell.{Tell}
 use Rattle.ports_core.specs.declared.queue.QueuedRequest.{QueuedRequest}
 use Rattle.ports_core.specs.Keys.{tenant_of}
 use Rattle.ports_core.specs.Slices.{Queue}
 use Rattle.ports_core.specs.Connections.{is_ready}
-use Rattle.ports_core.specs.Taking.{Taken, Nothing, Whole, taken_of, TakesOff, IsTaken, refused_at_once, connection_after, entering_of, entering, Joins, TakesNext}
+use Rattle.ports_core.specs.Intake.{Taken, Nothing, Whole, taken_of, TakesOff, IsTaken, refused_at_once, connection_after, entering_of, entering, Joins, TakesNext}
 use Rattle.ports_core.proofs.Numbers.{other_number}
 use Rattle.ports_core.proofs.Lists.{slice_get-set_same, slice_get-set_other}
 

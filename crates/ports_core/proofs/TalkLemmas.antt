@@ -7,14 +7,14 @@ use Rattle.std.proofs.lemmas.Grind.{flat_map-append}
 use Rattle.ports_http.specs.declared.fault.HeadFault.{HeadFault}
 use Rattle.ports_http.specs.Messages.{RequestMessage, ReplyMessage}
 use Rattle.ports_http.specs.Streams.{End, waiting, refused, closed, Begins, Refuses, RequestAt}
-use Rattle.ports_http.specs.Incoming.{Incoming, opening, ended, fed, behind, Removes}
+use Rattle.ports_http.specs.UnreadBytes.{Incoming, opening_stream, ended, fed, behind, Removes}
 use Rattle.ports_http.specs.Replies.{reply_text, fault_reply}
 use Rattle.ports_http.proofs.StreamLaws.{requests_stay, next_request, cuts_on, closes_after}
 use Rattle.ports_core.specs.declared.event.Tell.{Tell}
 use Rattle.ports_core.specs.declared.queue.QueuedRequest.{QueuedRequest}
-use Rattle.ports_core.specs.Telling.{at_once}
+use Rattle.ports_core.specs.Tell.{at_once}
 use Rattle.ports_core.specs.Plainly.{IsFrontOf}
-use Rattle.ports_core.specs.Conversations.{Exchange, written, refusal_told, refusal_written, left_of, IsCutTo, IsAnsweredOn, AreAnsweredOn}
+use Rattle.ports_core.specs.Conversations.{Exchange, written, refusal_told, refusal_written, stream_left, IsCutTo, IsAnsweredOn, AreAnsweredOn}
 
 -- the requests of these exchanges
 abbrev pub requests_in : List Exchange → List RequestMessage
@@ -43,7 +43,7 @@ pub record IsUnrefused (c : ℕ) (end : End) : Type 0 where
   pub written_is : refusal_written end ≡ []
 
 -- a stream that isn't over goes on
-goes_on : (end : End) (left : Incoming) → left ≡ left_of end → left.over ≡ false → end ≡ waiting left.unread
+goes_on : (end : End) (left : Incoming) → left ≡ stream_left end → left.over ≡ false → end ≡ waiting left.unread
 goes_on (waiting unread) left is open_end = ap (λ (s : Incoming). waiting s.unread) (sym is)
 goes_on (refused fault) left is open_end = absurd (false≢true (sym open_end ∙ ap (λ (s : Incoming). s.over) is))
 goes_on closed left is open_end = absurd (false≢true (sym open_end ∙ ap (λ (s : Incoming). s.over) is))
@@ -51,7 +51,7 @@ goes_on closed left is open_end = absurd (false≢true (sym open_end ∙ ap (λ 
 -- a request is taken off a stream that goes on
 pub record NextCut (c : ℕ) (came : List ℕ) (requests : List RequestMessage) (request : RequestMessage) (left : Incoming) : Type 0 where
   pub end : End
-  pub left_is : left ≡ left_of end
+  pub left_is : left ≡ stream_left end
   pub cut : IsCutTo came (requests ++ request ∷ []) end
   pub unrefused : IsUnrefused c end
 
@@ -78,7 +78,7 @@ next_cut c came requests unread request rest begins stands =
 pub record Talk (keys : List (List ℕ)) (Plain : ℕ → QueuedRequest → ReplyMessage → Type 0) (c : ℕ) (came sent : List ℕ) (tells : List Tell) (pending : List ℕ) (waits : List RequestMessage) (left : Incoming) : Type 0 where
   pub exchanges : List Exchange
   pub end : End
-  pub left_is : left ≡ left_of end
+  pub left_is : left ≡ stream_left end
   pub cut : IsCutTo came (requests_in exchanges ++ waits) end
   pub told : tells ≡ tells_in exchanges ++ refusal_told c end
   pub answers : AreAnsweredOn keys Plain c exchanges
@@ -105,7 +105,7 @@ told-more c exchanges exchange end tells none told =
     ∙ sym (ap (λ ts. tells_in (exchanges ++ exchange ∷ []) ++ ts) none ∙ append-nil (tells_in (exchanges ++ exchange ∷ [])))
 
 module _ (keys : List (List ℕ)) (Plain : ℕ → QueuedRequest → ReplyMessage → Type 0) (c : ℕ) (came sent : List ℕ) (tells : List Tell) where
-  pub none_came : (left : Incoming) → left ≡ opening → came ≡ [] → sent ≡ [] → tells ≡ [] → Talk keys Plain c came sent tells [] [] left
+  pub none_came : (left : Incoming) → left ≡ opening_stream → came ≡ [] → sent ≡ [] → tells ≡ [] → Talk keys Plain c came sent tells [] [] left
   none_came left is no_bytes none_sent none_told = record {
     exchanges = [];
     end = waiting [];

@@ -1,11 +1,11 @@
 -- Two runs with the same requests of a tenant.
 use Rattle.std.specs.Prelude.{◌≡◌, ◌⊎◌, ℕ, List, map}
 use Rattle.ports_http.specs.Messages.{ReplyMessage}
-use Rattle.ports_plain.specs.Plain.{PlainRequest}
+use Rattle.ports_plain.specs.Requests.{PlainRequest}
 use Rattle.ports_core.specs.declared.event.Event.{Event}
 use Rattle.ports_core.specs.declared.queue.QueuedRequest.{QueuedRequest}
 use Rattle.ports_core.specs.Effects.{Effect}
-use Rattle.ports_core.specs.Answering.{plain_request_of}
+use Rattle.ports_core.specs.Answers.{plain_request_of}
 use Rattle.ports_core.specs.State.{State, waiting_at}
 use Rattle.ports_core.specs.Plainly.{IsFrontOf, told_to, answers_of, own_of, IsToldPlainly}
 
@@ -31,3 +31,13 @@ own_requests {t = t} {steps = steps} told = requests_of (own_of told.taken (told
 pub record AreToldAlike (t : ℕ) (steps : List Effect) (service : State) (u : ℕ) (others : List Effect) (other : State) : Type 0 where
   pub alike : AreAlike (replies_to t steps) (replies_to u others)
   pub whole : waiting_at t service ≡ 0 → waiting_at u other ≡ 0 → replies_to t steps ≡ replies_to u others
+
+-- If a tenant's own requests in one run are those of a tenant in another run, both are told alike.
+abbrev pub EqualRequestsAreToldAlike : Type 0
+EqualRequestsAreToldAlike =
+    (keys other_keys : List (List ℕ)) (t u : ℕ) (events other_events : List Event)
+    (steps others : List Effect) (service other : State)
+    → (told : IsToldPlainly keys t events steps service)
+    (told_there : IsToldPlainly other_keys u other_events others other)
+    → own_requests told ≡ own_requests told_there
+    → AreToldAlike t steps service u others other

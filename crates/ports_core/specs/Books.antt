@@ -8,8 +8,8 @@ use Rattle.ports_core.specs.declared.event.Told.{Told}
 use Rattle.ports_core.specs.declared.event.Tell.{Tell}
 use Rattle.ports_core.specs.declared.queue.QueuedRequest.{QueuedRequest}
 use Rattle.ports_core.specs.Effects.{Effect}
-use Rattle.ports_core.specs.Connections.{new_connection, hears, answered, kept, closing}
-use Rattle.ports_core.specs.Taking.{Taken, Nothing, TakesNext, entering}
+use Rattle.ports_core.specs.Connections.{new_connection, hears, answered, kept, closing_number}
+use Rattle.ports_core.specs.Intake.{Taken, Nothing, TakesNext, entering}
 use Rattle.ports_core.specs.Opened.{Book, KeepsConnections, KeepsOthers}
 
 -- a connection opens, unless a refusal was told
@@ -25,7 +25,7 @@ pub record HearsOn (keys : List (List ℕ)) (event : Event) (c : ℕ) (told : To
   pub after : Connection
   pub takes : TakesNext keys c taken told.reply (hears event connection) after
   pub refused : told.refused ≡ None
-  pub closed : told.closed ≡ closing c after
+  pub closed : told.closed ≡ closing_number c after
   pub connection_is : new c ≡ kept after
   pub others : KeepsOthers c old new
 

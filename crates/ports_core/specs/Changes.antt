@@ -6,9 +6,9 @@ use Rattle.ports_core.specs.declared.event.Told.{Told}
 use Rattle.ports_core.specs.declared.event.Tell.{Tell}
 use Rattle.ports_core.specs.declared.queue.QueuedRequest.{QueuedRequest}
 use Rattle.mk_paths.specs.World.{World}
-use Rattle.ports_core.specs.Answering.{Answers}
-use Rattle.ports_core.specs.Slices.{Slice, joined, world_of, waiting_of}
-use Rattle.ports_core.specs.Taking.{Taken, Nothing, entering}
+use Rattle.ports_core.specs.Answers.{AnswersRequest}
+use Rattle.ports_core.specs.Slices.{Slice, with_requests, world_of, waiting_of}
+use Rattle.ports_core.specs.Intake.{Taken, Nothing, entering}
 use Rattle.ports_core.specs.State.{State, keys_of, slice_of, book_of, IsAllowed}
 use Rattle.ports_core.specs.Books.{BookStep}
 use Rattle.ports_core.specs.Steps.{Does}
@@ -27,7 +27,7 @@ pub record KeepsSlices (told : Told) (taken : Taken) (old new : State) : Type 0 
 -- if it has the tenant's key. A reply that is told goes to no tenant.
 pub record Enters (c : ℕ) (told : Told) (taken : Taken) (old new : State) : Type 0 where
   pub to_none : MatchOption told.reply (Unit {0}) (λ (tell : Tell). tell.tenant ≡ None)
-  pub slices : (t : ℕ) → slice_of t new ≡ option_map (joined (entering (keys_of old) c taken t)) (slice_of t old)
+  pub slices : (t : ℕ) → slice_of t new ≡ option_map (with_requests (entering (keys_of old) c taken t)) (slice_of t old)
 
 -- A tenant's first request leaves its queue, and its reply is told. The world becomes that of the plain
 -- service, or stays as it was at a reply of 503.
@@ -43,7 +43,7 @@ pub record FirstLeaves (t : ℕ) (told : Told) (taken : Taken) (old new : State)
   pub of_tenant : tell.tenant ≡ Some t
   pub to_asker : tell.conn ≡ first.conn
   pub world : World
-  pub answers : Answers (world_of slice) first.request tell.reply world
+  pub answers : AnswersRequest (world_of slice) first.request tell.reply world
   pub slice_is : slice_of t new ≡ Some (world, rest)
   pub others : KeepsOtherSlices t old new
 

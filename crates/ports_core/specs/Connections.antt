@@ -3,7 +3,7 @@ use Rattle.std.specs.Prelude.{◌≡◌, ℕ, ◌≤◌, Bool, true, false, ◌&
 use Rattle.std.specs.Prelude.{Some, None, is_none, if◌then◌else◌}
 use Rattle.ports_http.specs.Messages.{ReplyMessage}
 use Rattle.ports_http.specs.Replies.{reply_text}
-use Rattle.ports_http.specs.Incoming.{opening, ended, fed, room_of}
+use Rattle.ports_http.specs.UnreadBytes.{opening_stream, ended, fed, room_of}
 use Rattle.ports_core.specs.declared.connection.Connection.{Connection}
 use Rattle.ports_core.specs.declared.event.Event.{Event}
 use Rattle.ports_core.specs.declared.event.Event.TheVariants.{Open, Piece, End, Fault, Wrote, Turn}
@@ -14,7 +14,7 @@ use Rattle.ports_core.specs.declared.event.Event.TheVariants.{Open, Piece, End, 
 
 -- a connection that has just opened
 abbrev pub new_connection : Connection
-new_connection = record { stream = opening; pending = []; waits = None; ended = false; lost = false }
+new_connection = record { stream = opening_stream; pending = []; waits = None; ended = false; lost = false }
 
 -- how many bytes may come
 abbrev pub room_on : Connection → ℕ
@@ -52,14 +52,14 @@ hears (Wrote c (Some count)) connection = record connection { pending = drop cou
 hears (Turn t) connection = connection
 
 -- an event may happen to the connection: what comes has room, and what was written was pending
-abbrev pub Fits : Event → Connection → Type 0
-Fits (Open c) connection = Unit {0}
-Fits (Piece c bytes) connection = (connection.ended ≡ false) × (length bytes.items ≤ room_on connection)
-Fits (End c) connection = Unit {0}
-Fits (Fault c) connection = Unit {0}
-Fits (Wrote c None) connection = Unit {0}
-Fits (Wrote c (Some count)) connection = count ≤ length connection.pending
-Fits (Turn t) connection = Unit {0}
+abbrev pub MayHappenTo : Event → Connection → Type 0
+MayHappenTo (Open c) connection = Unit {0}
+MayHappenTo (Piece c bytes) connection = (connection.ended ≡ false) × (length bytes.items ≤ room_on connection)
+MayHappenTo (End c) connection = Unit {0}
+MayHappenTo (Fault c) connection = Unit {0}
+MayHappenTo (Wrote c None) connection = Unit {0}
+MayHappenTo (Wrote c (Some count)) connection = count ≤ length connection.pending
+MayHappenTo (Turn t) connection = Unit {0}
 
 -- The waiting request is answered. If the connection isn't lost, the reply's bytes are to be written. They
 -- say that the connection closes if the request was the last of its stream.
@@ -77,5 +77,5 @@ abbrev pub kept : Connection → Option Connection
 kept connection = if is_done connection then None else Some connection
 
 -- the number of the connection that closes, if it does
-abbrev pub closing : ℕ → Connection → Option ℕ
-closing c connection = if is_done connection then Some c else None
+abbrev pub closing_number : ℕ → Connection → Option ℕ
+closing_number c connection = if is_done connection then Some c else None

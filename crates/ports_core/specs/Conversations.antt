@@ -4,7 +4,7 @@ use Rattle.std.specs.Prelude.{map, Option, Some, None, if◌then◌else◌}
 use Rattle.std.specs.List.{flat_map, list_any}
 use Rattle.ports_http.specs.Messages.{RequestMessage, ReplyMessage}
 use Rattle.ports_http.specs.Streams.{End, waiting, refused, closed, Begins, Cuts}
-use Rattle.ports_http.specs.Incoming.{Incoming, ended}
+use Rattle.ports_http.specs.UnreadBytes.{Incoming, ended}
 use Rattle.ports_http.specs.Replies.{reply_text, fault_reply, unknown_key, store_failed}
 use Rattle.ports_core.specs.declared.connection.Connection.{Connection}
 use Rattle.ports_core.specs.declared.event.Event.{Event}
@@ -13,11 +13,11 @@ use Rattle.ports_core.specs.declared.event.Tell.{Tell}
 use Rattle.ports_core.specs.Effects.{Effect}
 use Rattle.ports_core.specs.Keys.{tenant_of}
 use Rattle.ports_core.specs.Connections.{is_ready}
-use Rattle.ports_core.specs.Telling.{at_once, in_turn}
-use Rattle.ports_core.specs.Taking.{Nothing, TakesOff}
+use Rattle.ports_core.specs.Tell.{at_once, in_turn}
+use Rattle.ports_core.specs.Intake.{Nothing, TakesOff}
 use Rattle.ports_core.specs.declared.queue.QueuedRequest.{QueuedRequest}
 use Rattle.mk_paths.specs.World.{opening_world}
-use Rattle.ports_core.specs.Answering.{plain_answer}
+use Rattle.ports_core.specs.Answers.{plain_answer}
 use Rattle.ports_core.specs.Opened.{no_connections}
 use Rattle.ports_core.specs.Sharing.{Sizes}
 use Rattle.ports_core.specs.State.{State, new_state, connection_of, pending_at}
@@ -85,10 +85,10 @@ refusal_written (refused fault) = reply_text (fault_reply fault) true
 refusal_written closed = []
 
 -- what is left of a stream after its requests
-abbrev pub left_of : End → Incoming
-left_of (waiting unread) = record { unread = unread; over = false }
-left_of (refused fault) = ended
-left_of closed = ended
+abbrev pub stream_left : End → Incoming
+stream_left (waiting unread) = record { unread = unread; over = false }
+stream_left (refused fault) = ended
+stream_left closed = ended
 
 -- a stream is these requests, one after the other, and then more bytes, whatever
 -- they are; or it has this end
@@ -139,14 +139,15 @@ WaitsFor keys (Some tenant) waits =
 
 -- What is left of an open connection: its unread bytes, if it isn't lost, and the request that waits. If
 -- the connection isn't open, nothing waits.
-abbrev pub IsLeft : List (List ℕ) → Option Connection → List RequestMessage → End → Type 0
-IsLeft keys None waits end = waits ≡ []
-IsLeft keys (Some connection) waits end = (connection.lost ≡ false → connection.stream ≡ left_of end) × WaitsFor keys connection.waits waits
+abbrev pub IsLeftOfConnection : List (List ℕ) → Option Connection → List RequestMessage → End → Type 0
+IsLeftOfConnection keys None waits end = waits ≡ []
+IsLeftOfConnection keys (Some connection) waits end =
+    (connection.lost ≡ false → connection.stream ≡ stream_left end) × WaitsFor keys connection.waits waits
 
 -- If nothing waits and nothing is pending on an open connection, there is nothing more to take off it. If
 -- a connection has closed, there was nothing more to take off it.
 abbrev pub IsServedOut : Option Connection → End → Type 0
-IsServedOut None end = TakesOff (left_of end) Nothing (left_of end)
+IsServedOut None end = TakesOff (stream_left end) Nothing (stream_left end)
 IsServedOut (Some connection) end = is_ready connection ≡ true → TakesOff connection.stream Nothing connection.stream
 
 -- A connection in a run, in bytes. Its whole stream, however it came in pieces, is cut into the requests
@@ -164,7 +165,7 @@ pub record ConversesPlainly (keys : List (List ℕ)) (c : ℕ) (events : List Ev
   pub answers : AreAnsweredOn keys (IsPlainOr503 keys events steps) c exchanges
   pub bytes : AreWritten (is_lost_in c events) (sent_on c events steps) (pending_at c service)
       (flat_map written exchanges ++ refusal_written end)
-  pub stays : IsLeft keys (connection_of c service) waits end
+  pub stays : IsLeftOfConnection keys (connection_of c service) waits end
   pub served : is_lost_in c events ≡ false → came_on c events ≢ [] → IsServedOut (connection_of c service) end
 
 -- in every run from the beginning, each connection converses plainly

@@ -1,12 +1,12 @@
 -- Each request is told its reply within a number of its tenant's own turns.
 use Rattle.std.specs.Prelude.{◌≡◌, ℕ, ◌+◌, ◌^◌, ◌<◌, ◌==◌, List, [], ◌∷◌, ◌++◌, length, Some, if◌then◌else◌}
 use Rattle.mk_paths.specs.World.{World}
-use Rattle.ports_plain.specs.Resting.{most_turns}
+use Rattle.ports_plain.specs.AnswerCosts.{most_turns}
 use Rattle.ports_core.specs.declared.event.Event.{Event}
 use Rattle.ports_core.specs.declared.event.Event.TheVariants.{Turn}
 use Rattle.ports_core.specs.declared.queue.QueuedRequest.{QueuedRequest}
 use Rattle.ports_core.specs.Effects.{Effect}
-use Rattle.ports_core.specs.Answering.{plain_request_of}
+use Rattle.ports_core.specs.Answers.{plain_request_of}
 use Rattle.ports_core.specs.Sharing.{Sizes}
 use Rattle.ports_core.specs.State.{State, new_state, slice_of, had_at}
 use Rattle.ports_core.specs.Runs.{Run}

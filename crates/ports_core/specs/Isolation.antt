@@ -1,16 +1,17 @@
 -- What a run from any state does for a tenant, and when two such runs, of two services, must give
 -- two tenants equal replies.
-use Rattle.std.specs.Prelude.{◌≡◌, ℕ, false, List, ◌++◌, All, Some}
+use Rattle.std.specs.Prelude.{◌≡◌, ◌<◌, ℕ, false, List, ◌++◌, length, All, Some}
 use Rattle.ports_core.specs.declared.event.Event.{Event}
 use Rattle.ports_core.specs.declared.event.Tell.{Tell}
 use Rattle.ports_core.specs.declared.queue.QueuedRequest.{QueuedRequest}
 use Rattle.ports_core.specs.Effects.{Effect}
 use Rattle.ports_core.specs.Slices.{Slice, world_of, waiting_of}
-use Rattle.ports_core.specs.State.{State, keys_of, slice_of, book_of, waiting_at}
+use Rattle.ports_core.specs.Sharing.{Sizes}
+use Rattle.ports_core.specs.State.{State, keys_of, new_state, slice_of, book_of, waiting_at}
 use Rattle.ports_core.specs.Runs.{Run}
 use Rattle.ports_core.specs.Books.{TakesIn}
-use Rattle.ports_core.specs.Telling.{is_failure}
-use Rattle.ports_core.specs.Plainly.{told_to, answers_of, own_of, plain_run, plain_world}
+use Rattle.ports_core.specs.Tell.{is_failure}
+use Rattle.ports_core.specs.Plainly.{IsToldPlainly, told_to, answers_of, own_of, plain_run, plain_world}
 use Rattle.ports_core.specs.Alike.{requests_of, replies_to, AreAlike}
 
 -- A run from any state, to a tenant with this slice. Take the requests that waited and those that came,
@@ -59,3 +60,10 @@ EqualSlicesAreToldAlike =
 abbrev pub EachRunServesPlainly : Type 0
 EachRunServesPlainly = (t : ℕ) (slice : Slice) (events : List Event) (steps : List Effect) (old new : State)
     → slice_of t old ≡ Some slice → Run old events steps new → IsServedPlainly t slice events steps old new
+
+-- in every run of a service from its beginning, each tenant is told plainly
+abbrev pub EachTenantIsToldPlainly : Type 0
+EachTenantIsToldPlainly = (keys : List (List ℕ)) (sizes : Sizes) (events : List Event) (steps : List Effect)
+    (service : State) (t : ℕ)
+    → t < length keys → Run (new_state keys sizes) events steps service
+    → IsToldPlainly keys t events steps service

@@ -5,7 +5,7 @@ use Rattle.ports_core.specs.declared.event.Event.TheVariants.{Open, Piece, End, 
 use Rattle.ports_core.specs.declared.event.Told.{Told}
 use Rattle.ports_core.specs.declared.queue.QueuedRequest.{QueuedRequest}
 use Rattle.ports_core.specs.Jobs.{TenantJob, first_of, job_after, BecomesJob}
-use Rattle.ports_core.specs.Telling.{spent_in}
+use Rattle.ports_core.specs.Tell.{spent_as_told}
 use Rattle.ports_core.specs.State.{State, queue_at, jobs_of, job_at}
 
 -- no job changes
@@ -15,7 +15,7 @@ KeepsJobs old new = (t : ℕ) → job_at t new ≡ job_at t old
 -- The job of a tenant after its turn, if this request waited longest. If none waits, there is no job.
 abbrev pub job_after_turn : Option QueuedRequest → Told → Option TenantJob → Option TenantJob
 job_after_turn None told job = None
-job_after_turn (Some first) told job = job_after first.request told.reply (spent_in told) job
+job_after_turn (Some first) told job = job_after first.request told.reply (spent_as_told told) job
 
 -- a turn changes the job of its tenant, and no other
 abbrev pub TurnsJob : ℕ → Told → State → State → Type 0

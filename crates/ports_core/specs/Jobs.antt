@@ -2,14 +2,14 @@
 -- yet.
 use Rattle.std.specs.Prelude.{◌≡◌, ◌≢◌, ℕ, ◌+◌, List, slice_get, Option, Some, None, option_map, unwrap_or}
 use Rattle.std.specs.Option.{ForSome}
-use Rattle.ports_index.specs.declared.spending.Spent.{Spent}
+use Rattle.ports_index.specs.declared.spent.Spent.{Spent}
 use Rattle.ports_index.specs.PathOutcomes.{counted}
 use Rattle.ports_http.specs.Messages.{RequestMessage}
 use Rattle.ports_plain.specs.declared.questions.Question.{Question}
 use Rattle.ports_plain.specs.Questions.{question_of}
 use Rattle.ports_core.specs.declared.job.Job.{Job}
 use Rattle.ports_core.specs.declared.queue.QueuedRequest.{QueuedRequest}
-use Rattle.ports_core.specs.Answering.{plain_request_of}
+use Rattle.ports_core.specs.Answers.{plain_request_of}
 use Rattle.ports_core.specs.Slices.{Queue}
 
 -- A tenant's job: the question that its first request asks, and what this request has had so far. A Job is three

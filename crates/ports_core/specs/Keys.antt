@@ -2,11 +2,12 @@
 use Rattle.std.specs.Prelude.{ℕ, Bool, true, ◌&&◌, nat_le, not, List, [], ◌∷◌, length, map, Option, Some, None, bytes_eq, position, String}
 use Rattle.std.specs.List.{list_all, list_any}
 use Rattle.std.specs.String.{string_bytes}
+use Rattle.general_facts.specs.Ascii.{bang, tilde}
 use Rattle.ports_core.specs.declared.keys.Config.{Config}
 
 -- printable ASCII that isn't a blank
 abbrev pub is_key_byte : ℕ → Bool
-is_key_byte byte = nat_le 33 byte && nat_le byte 126
+is_key_byte byte = nat_le bang byte && nat_le byte tilde
 
 -- a number of keys, or of bytes of a key, that is allowed
 abbrev pub is_count : ℕ → Bool

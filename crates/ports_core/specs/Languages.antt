@@ -5,7 +5,7 @@ use Rattle.mk_paths.specs.World.{World, profile_of}
 use Rattle.ports_plain.specs.Languages.{asks_profile}
 use Rattle.ports_core.specs.declared.event.Event.{Event}
 use Rattle.ports_core.specs.declared.queue.QueuedRequest.{QueuedRequest}
-use Rattle.ports_core.specs.Answering.{plain_request_of, plain_answer}
+use Rattle.ports_core.specs.Answers.{plain_request_of, plain_answer}
 use Rattle.ports_core.specs.Effects.{Effect}
 use Rattle.ports_core.specs.Slices.{Slice, world_of}
 use Rattle.ports_core.specs.State.{State}

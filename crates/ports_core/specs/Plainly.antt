@@ -6,21 +6,21 @@ use Rattle.ports_core.specs.declared.event.Tell.{Tell}
 use Rattle.ports_core.specs.declared.queue.QueuedRequest.{QueuedRequest}
 use Rattle.ports_core.specs.Effects.{Effect}
 use Rattle.mk_paths.specs.World.{World, opening_world}
-use Rattle.ports_core.specs.Answering.{plain_answer}
-use Rattle.ports_core.specs.Telling.{is_failure}
+use Rattle.ports_core.specs.Answers.{plain_answer}
+use Rattle.ports_core.specs.Tell.{is_failure}
 use Rattle.ports_core.specs.Opened.{no_connections}
 use Rattle.ports_core.specs.State.{State, waiting_at}
 use Rattle.ports_core.specs.Books.{TakesIn}
 
 -- whether a tenant is this one
-abbrev pub is_of : ℕ → Option ℕ → Bool
-is_of t None = false
-is_of t (Some tenant) = tenant == t
+abbrev pub is_this_tenant : ℕ → Option ℕ → Bool
+is_this_tenant t None = false
+is_this_tenant t (Some tenant) = tenant == t
 
 -- a reply, if it was told to the tenant
 abbrev pub told_if : ℕ → Option Tell → List Tell
 told_if t None = []
-told_if t (Some tell) = if is_of t tell.tenant then tell ∷ [] else []
+told_if t (Some tell) = if is_this_tenant t tell.tenant then tell ∷ [] else []
 
 -- the replies that were told to a tenant, in their order
 abbrev pub told_to : ℕ → List Effect → List Tell

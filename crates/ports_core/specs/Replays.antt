@@ -9,7 +9,7 @@ use Rattle.ports_core.specs.Effects.{Effect}
 use Rattle.ports_core.specs.Keys.{is_fit, key_texts}
 use Rattle.ports_core.specs.Sharing.{sizes_of}
 use Rattle.ports_core.specs.State.{State, new_state}
-use Rattle.ports_core.specs.Runs.{Run, Stops}
+use Rattle.ports_core.specs.Runs.{Run, StopsRunAt}
 use Rattle.ports_core.specs.Plainly.{IsToldPlainly}
 use Rattle.ports_core.specs.Conversations.{ConversesPlainly}
 
@@ -28,16 +28,16 @@ ConversesOnEach config events steps service =
     (c : ℕ) → ConversesPlainly (key_texts config.keys.items) c events steps service
 
 -- an event may not happen, and the steps are those of the events before it
-abbrev pub StopsAt : Config → List Event → ℕ → List Effect → State → Type 0
-StopsAt config events index steps service =
+abbrev pub StopsAtEvent : Config → List Event → ℕ → List Effect → State → Type 0
+StopsAtEvent config events index steps service =
     IsRun config (take index events) steps service × TellsPlainly config (take index events) steps service
-    × ConversesOnEach config (take index events) steps service × Stops events index service
+    × ConversesOnEach config (take index events) steps service × StopsRunAt events index service
 
 -- Why a run ends early. An event may not happen, and the transcript is that of the events before it. Or the
 -- service can't begin, since its config isn't fit. Or the config is fit, and its store failed, or memory ran
 -- out for the service or for the transcript.
 abbrev pub EndsEarly : {W : Type 0} → Config → List Event → ReplayFault W → Type 0
-EndsEarly config events (NotAllowed index done) = StopsAt config events index done.steps.items done.service
+EndsEarly config events (NotAllowed index done) = StopsAtEvent config events index done.steps.items done.service
 EndsEarly config events (New new.Config) = is_fit config ≡ false
 EndsEarly config events (New (new.Memory _)) = is_fit config ≡ true
 EndsEarly config events (New (new.Store _)) = is_fit config ≡ true

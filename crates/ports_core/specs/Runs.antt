@@ -4,8 +4,8 @@ use Rattle.ports_core.specs.declared.event.Event.{Event}
 use Rattle.ports_core.specs.declared.event.Event.TheVariants.{Wrote}
 use Rattle.ports_core.specs.Effects.{Effect}
 use Rattle.ports_core.specs.Connections.{count_off}
-use Rattle.ports_core.specs.Telling.{spent_in, CountsTurns}
-use Rattle.ports_core.specs.Charging.{EventSpends, FitsTurn}
+use Rattle.ports_core.specs.Tell.{spent_as_told, CountsTurns}
+use Rattle.ports_core.specs.Charges.{EventSpends, FitsTurn}
 use Rattle.ports_core.specs.State.{State, IsAllowed, pending_at}
 use Rattle.ports_core.specs.Steps.{Does}
 use Rattle.ports_core.specs.JobChanges.{ChangesJobs}
@@ -22,7 +22,7 @@ pub record Happens (event : Event) (step : Effect) (old new : State) : Type 0 wh
   pub does : Does event step.told old new
   pub counts : CountsTurns event step.told
   pub spends : EventSpends event step.told old
-  pub short : FitsTurn (spent_in step.told)
+  pub short : FitsTurn (spent_as_told step.told)
   pub jobs : ChangesJobs event step.told old new
 
 -- these events happen one after another, with these steps
@@ -33,5 +33,5 @@ Run old [] (step ∷ steps) new = ⊥
 Run old (event ∷ events) [] new = ⊥
 
 -- the event at this place may not happen
-abbrev pub Stops : List Event → ℕ → State → Type 0
-Stops events index state = (event : Event) × (slice_get events index ≡ Some event) × ¬ (IsAllowed event state)
+abbrev pub StopsRunAt : List Event → ℕ → State → Type 0
+StopsRunAt events index state = (event : Event) × (slice_get events index ≡ Some event) × ¬ (IsAllowed event state)

@@ -21,8 +21,8 @@ abbrev pub new_slice : Slice
 new_slice = (opening_world, [])
 
 -- requests wait after the others
-abbrev pub joined : List QueuedRequest → Slice → Slice
-joined queued_requests slice = (slice.0, slice.1 ++ queued_requests)
+abbrev pub with_requests : List QueuedRequest → Slice → Slice
+with_requests queued_requests slice = (slice.0, slice.1 ++ queued_requests)
 
 -- a world and a queue, if both are there
 abbrev pub sliced : Option World → Option Queue → Option Slice

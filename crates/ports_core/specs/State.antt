@@ -9,7 +9,7 @@ use Rattle.ports_core.specs.Slices.{Slice, Queue, sliced}
 use Rattle.ports_core.specs.declared.job.Job.{Job}
 use Rattle.ports_core.specs.Jobs.{TenantJob, job_in, had_by}
 use Rattle.ports_core.specs.Sharing.{Sizes, Sharing, unused}
-use Rattle.ports_core.specs.Connections.{Fits, room_on}
+use Rattle.ports_core.specs.Connections.{MayHappenTo, room_on}
 use Rattle.ports_core.specs.Opened.{Book, connection_in, OpenAnd}
 
 -- the tenants' keys, worlds and queues, in the order of the tenants' numbers; the open connections by their
@@ -81,10 +81,10 @@ new_state keys sizes =
 -- any other event fits its connection, which is open.
 abbrev pub IsAllowed : Event → State → Type 0
 IsAllowed (Open c) state = c ≡ next_of state
-IsAllowed (Piece c bytes) state = OpenAnd (connection_of c state) (Fits (Piece c bytes))
-IsAllowed (End c) state = OpenAnd (connection_of c state) (Fits (End c))
-IsAllowed (Fault c) state = OpenAnd (connection_of c state) (Fits (Fault c))
-IsAllowed (Wrote c count) state = OpenAnd (connection_of c state) (Fits (Wrote c count))
+IsAllowed (Piece c bytes) state = OpenAnd (connection_of c state) (MayHappenTo (Piece c bytes))
+IsAllowed (End c) state = OpenAnd (connection_of c state) (MayHappenTo (End c))
+IsAllowed (Fault c) state = OpenAnd (connection_of c state) (MayHappenTo (Fault c))
+IsAllowed (Wrote c count) state = OpenAnd (connection_of c state) (MayHappenTo (Wrote c count))
 IsAllowed (Turn t) state = t < length (keys_of state)
 
 -- how many bytes may come on a connection

@@ -8,17 +8,17 @@ use Rattle.ports_core.specs.declared.event.Event.TheVariants.{Open, Piece, End, 
 use Rattle.ports_core.specs.declared.event.Told.{Told}
 use Rattle.ports_core.specs.declared.event.Refused.TheVariants.{Connections, Memory}
 use Rattle.ports_core.specs.declared.queue.QueuedRequest.{QueuedRequest}
-use Rattle.ports_core.specs.Answering.{AnswersFor}
-use Rattle.ports_core.specs.Connections.{new_connection, answered, closing}
-use Rattle.ports_core.specs.Telling.{in_turn}
-use Rattle.ports_core.specs.Taking.{Taken, Joins}
+use Rattle.ports_core.specs.Answers.{AnswersFor}
+use Rattle.ports_core.specs.Connections.{new_connection, answered, closing_number}
+use Rattle.ports_core.specs.Tell.{in_turn}
+use Rattle.ports_core.specs.Intake.{Taken, Joins}
 use Rattle.ports_core.specs.Opened.{KeepsConnections, KeepsOthers}
 use Rattle.ports_core.specs.Books.{HearsOn, TellsOn}
 use Rattle.ports_core.specs.State.{State, keys_of, worlds_of, queues_of, world_at, queue_at, connection_of, book_of, next_of, is_full}
 use Rattle.refusals.specs.Refused.{refused}
 
 -- the keys and the next number stay as they were
-pub record Keeps (old new : State) : Type 0 where
+pub record KeepsKeysAndNext (old new : State) : Type 0 where
   pub keys : keys_of new ≡ keys_of old
   pub next : next_of new ≡ next_of old
 
@@ -36,7 +36,7 @@ KeepsOtherQueues t old new = (u : ℕ) → u ≢ t → queue_at u new ≡ queue_
 
 -- nothing changes, but a job may, and what the tenants share
 pub record IsSame (old new : State) : Type 0 where
-  pub keeps : Keeps old new
+  pub keeps : KeepsKeysAndNext old new
   pub connections : KeepsConnections (book_of old) (book_of new)
   pub worlds : KeepsWorlds old new
   pub queues : KeepsQueues old new
@@ -72,10 +72,10 @@ pub record Hears (event : Event) (c : ℕ) (told : Told) (old new : State) : Typ
   pub hears : HearsOn (keys_of old) event c told taken (book_of old) (book_of new)
   pub queues : Joins (keys_of old) c taken (queues_of old) (queues_of new)
   pub worlds : KeepsWorlds old new
-  pub keeps : Keeps old new
+  pub keeps : KeepsKeysAndNext old new
 
 -- a turn of a tenant for which nothing waits
-pub record IsIdle (t : ℕ) (told : Told) (old new : State) : Type 0 where
+pub record IsIdleTurn (t : ℕ) (told : Told) (old new : State) : Type 0 where
   pub nothing_waits : queue_at t old ≡ Some []
   pub reply : told.reply ≡ None
   pub refused : told.refused ≡ None
@@ -95,7 +95,7 @@ pub record IsPending (t : ℕ) (told : Told) (old new : State) : Type 0 where
 
 -- A turn that answers the request that waited longest. The reply is told to the connection that asked,
 -- which closes if it is done. The tenant's world changes as the reply says.
-pub record IsAnswered (t : ℕ) (told : Told) (old new : State) : Type 0 where
+pub record IsAnsweringTurn (t : ℕ) (told : Told) (old new : State) : Type 0 where
   pub first : QueuedRequest
   pub rest : List QueuedRequest
   pub waited : queue_at t old ≡ Some (first ∷ rest)
@@ -105,13 +105,13 @@ pub record IsAnswered (t : ℕ) (told : Told) (old new : State) : Type 0 where
   pub answers : AnswersFor t first.request replied (worlds_of old) (worlds_of new)
   pub reply : told.reply ≡ Some (in_turn t first.conn replied)
   pub refused : told.refused ≡ None
-  pub closed : told.closed ≡ option_and_then (closing first.conn) (option_map (answered replied) (connection_of first.conn old))
+  pub closed : told.closed ≡ option_and_then (closing_number first.conn) (option_map (answered replied) (connection_of first.conn old))
   pub tells : TellsOn (in_turn t first.conn replied) (book_of old) (book_of new)
-  pub keeps : Keeps old new
+  pub keeps : KeepsKeysAndNext old new
 
 -- a turn of a tenant
 abbrev pub Turns : ℕ → Told → State → State → Type 0
-Turns t told old new = IsIdle t told old new ⊎ (IsPending t told old new ⊎ IsAnswered t told old new)
+Turns t told old new = IsIdleTurn t told old new ⊎ (IsPending t told old new ⊎ IsAnsweringTurn t told old new)
 
 -- what an event does, and what it tells
 abbrev pub Does : Event → Told → State → State → Type 0

@@ -1,8 +1,8 @@
 //! One connection.
 ghost use Rattle.std.specs.Prelude.{◌≡◌, IsTrue, true, ◌↔◌, [], IfOk};
-ghost use Rattle.ports_http.specs.Incoming.{ended};
+ghost use Rattle.ports_http.specs.UnreadBytes.{ended};
 ghost use Rattle.ports_http.specs.Replies.{reply_text, IsFixed};
-ghost use Rattle.ports_core.specs.Telling.{at_once};
+ghost use Rattle.ports_core.specs.Tell.{at_once};
 
 use crate::event::{Event, Tell};
 use crate::outbox::Outbox;
@@ -21,8 +21,8 @@ pub(crate) struct Connection {
 }
 
 impl Connection {
-    ghost use Rattle.ports_core.specs.Connections.{new_connection, hears, room_on, is_ready, is_done, with_pending, answered, Fits};
-    ghost use Rattle.ports_core.specs.Answering.{AreBytesOf};
+    ghost use Rattle.ports_core.specs.Connections.{new_connection, hears, room_on, is_ready, is_done, with_pending, answered, MayHappenTo};
+    ghost use Rattle.ports_core.specs.Answers.{AreBytesOf};
 
     /// A connection that has just opened, with all its buffers. It fails only if memory runs out.
     pub(crate) fn new(alloc: Global) -> Result<Connection, AllocError>
@@ -46,7 +46,7 @@ impl Connection {
 
     /// What an event does to the connection before a request is taken.
     pub(crate) fn hear(&mut self, event: &Event)
-        requires { Fits event.now self.old }
+        requires { MayHappenTo event.now self.old }
         ensures { self.new ≡ hears event.now self.old }
     {
         match event {
@@ -100,7 +100,7 @@ impl Connection {
 
     /// Whether an event may happen to the connection now.
     pub(crate) fn fits(&self, event: &Event) -> bool
-        ensures { IsTrue result ↔ Fits event.now self.now }
+        ensures { IsTrue result ↔ MayHappenTo event.now self.now }
     {
         match event {
             Event::Piece(_, bytes) => !self.ended && bytes.len() <= self.room(),

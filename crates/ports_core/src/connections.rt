@@ -1,13 +1,11 @@
 //! The open connections, by their numbers.
-ghost use Rattle.std.specs.Prelude.{◌≡◌, ◌≢◌, ◌≤◌, ◌↔◌, ℕ, All, None, IsTrue, length, option_map, option_and_then};
-ghost use Rattle.ports_core.specs.Keys.{key_texts};
-ghost use Rattle.ports_core.specs.Connections.{Fits, answered, closes_on, kept, closing};
-ghost use Rattle.ports_core.specs.Answering.{AreBytesOf};
-ghost use Rattle.ports_core.specs.Telling.{CountsNone};
-ghost use Rattle.ports_core.specs.Taking.{Taken, Joins};
-ghost use Rattle.ports_core.specs.Opened.{connection_in, book_in, is_connection_done, OpenAnd};
-ghost use Rattle.ports_core.specs.Books.{HearsOn};
-ghost use Rattle.ports_core.specs.Places.{HasPlace};
+ghost use Rattle.std.specs.Prelude.{◌≡◌, ◌≤◌, ◌↔◌, IsTrue, length};
+ghost use Rattle.ports_core.specs.Connections.{closes_on};
+ghost use Rattle.ports_core.specs.Answers.{AreBytesOf};
+ghost use Rattle.ports_core.specs.Tell.{CountsNone};
+ghost use Rattle.ports_core.specs.OpenConnections.{AnswersOn, HavePlacesFor, HearsAndTakes, KeepsOthersIn};
+ghost use Rattle.ports_core.specs.OpenConnections.{KeepsUnlessDone, MayHear, TellsClosing};
+ghost use Rattle.ports_core.specs.Opened.{connection_in, is_connection_done};
 
 use crate::connection::Connection;
 use crate::event::{Event, Told};
@@ -34,14 +32,11 @@ pub(crate) fn hear_connection(
     event: &Event,
 ) -> Told
     requires keyed { length queues.old ≡ length keys.now }
-    requires open { OpenAnd (connection_in conn connections.old.entries) (Fits event.now) }
-    requires places { OpenAnd (connection_in conn connections.old.entries)
-        (λ connection. connection.waits ≡ None → All HasPlace queues.old) }
+    requires open { MayHear (connection_in conn connections.old.entries) event.now }
+    requires places { HavePlacesFor (connection_in conn connections.old.entries) queues.old }
     ensures count { length connections.new.entries ≤ length connections.old.entries }
-    ensures hears { (taken : Taken)
-        × HearsOn (key_texts keys.now) event.now conn result taken
-        (book_in connections.old.entries) (book_in connections.new.entries)
-        × Joins (key_texts keys.now) conn taken queues.old queues.new }
+    ensures hears { HearsAndTakes keys.now event.now conn result
+        connections.old.entries connections.new.entries queues.old queues.new }
     ensures counts { CountsNone result }
 {
     let connection = connections.get_mut(&conn).unwrap();
@@ -71,10 +66,8 @@ pub(crate) fn answer_connection(
 )
     requires { AreBytesOf reply.now (closes_on (connection_in conn connections.old.entries)) bytes }
     ensures count { length connections.new.entries ≡ length connections.old.entries }
-    ensures connection { connection_in conn connections.new.entries
-        ≡ option_map (answered reply.now) (connection_in conn connections.old.entries) }
-    ensures others { (d : ℕ) → d ≢ conn
-        → connection_in d connections.new.entries ≡ connection_in d connections.old.entries }
+    ensures connection { AnswersOn conn reply.now connections.old.entries connections.new.entries }
+    ensures others { KeepsOthersIn conn connections.old.entries connections.new.entries }
 {
     if let Some(connection) = connections.get_mut(&conn) {
         connection.answer(reply, bytes);
@@ -85,12 +78,9 @@ pub(crate) fn answer_connection(
 /// of the connection if that closes.
 pub(crate) fn close_done(connections: &mut Connections, conn: u64) -> Option<u64>
     ensures count { length connections.new.entries ≤ length connections.old.entries }
-    ensures closed { result
-        ≡ option_and_then (closing conn) (connection_in conn connections.old.entries) }
-    ensures connection { connection_in conn connections.new.entries
-        ≡ option_and_then kept (connection_in conn connections.old.entries) }
-    ensures others { (d : ℕ) → d ≢ conn
-        → connection_in d connections.new.entries ≡ connection_in d connections.old.entries }
+    ensures closed { TellsClosing conn connections.old.entries result }
+    ensures connection { KeepsUnlessDone conn connections.old.entries connections.new.entries }
+    ensures others { KeepsOthersIn conn connections.old.entries connections.new.entries }
 {
     if !is_connection_done(connections, conn) {
         return None;
@@ -110,8 +100,7 @@ fn is_connection_done(connections: &Connections, conn: u64) -> bool
 
 /// Whether an event may happen to a connection now: it is open, and the event fits it.
 pub(crate) fn may_hear(connections: &Connections, conn: u64, event: &Event) -> bool
-    ensures { IsTrue result ↔ OpenAnd (connection_in conn connections.now.entries)
-        (Fits event.now) }
+    ensures { IsTrue result ↔ MayHear (connection_in conn connections.now.entries) event.now }
 {
     match connections.get(&conn) {
         Some(connection) => connection.fits(event),

@@ -1,6 +1,6 @@
 //! What happens to a service, and what it tells.
 ghost use Rattle.std.specs.Prelude.{◌≡◌, Some, None};
-ghost use Rattle.ports_core.specs.Telling.{CountsNone, spent_in};
+ghost use Rattle.ports_core.specs.Tell.{CountsNone, spent_as_told};
 
 use ports_http::Reply;
 use ports_index::Spent;
@@ -87,7 +87,7 @@ impl Told {
         ensures reply { result.reply ≡ None }
         ensures refused { result.refused ≡ None }
         ensures closed { result.closed ≡ None }
-        ensures spent { spent_in result ≡ spent }
+        ensures spent { spent_as_told result ≡ spent }
     {
         Told {
             reply: None,
@@ -103,7 +103,7 @@ impl Told {
         ensures reply { result.reply ≡ Some tell }
         ensures refused { result.refused ≡ None }
         ensures closed { result.closed ≡ closed }
-        ensures spent { spent_in result ≡ spent }
+        ensures spent { spent_as_told result ≡ spent }
     {
         Told {
             reply: Some(tell),

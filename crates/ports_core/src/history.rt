@@ -1,12 +1,10 @@
 //! A whole run.
-ghost use Rattle.std.specs.Prelude.{◌≡◌, IfOk, IfErr, OnOk};
+ghost use Rattle.std.specs.Prelude.{◌≡◌, IfErr, IfOk, OnOk};
 ghost use Rattle.refusals.specs.Refused.{refused};
 ghost use Rattle.ports_core.specs.State.{IsAllowed};
 ghost use Rattle.ports_core.specs.Runs.{sent_by};
-ghost use Rattle.ports_core.specs.Keys.{key_texts};
-ghost use Rattle.ports_core.specs.Sharing.{sizes_of};
-ghost use Rattle.ports_core.specs.InTime.{IsToldInTime};
-ghost use Rattle.ports_core.specs.Replays.{IsRun, TellsPlainly, ConversesOnEach, EndsEarly};
+ghost use Rattle.ports_core.specs.Replays.{EndsEarly};
+ghost use Rattle.ports_core.specs.Transcripts.{GivesRun, RunsConverse, RunsInTime, RunsPlainly};
 ghost use Rattle.ports_core.specs.declared.history.ReplayFault.TheVariants as faults;
 
 use crate::event::{Event, Told};
@@ -94,10 +92,10 @@ pub fn replay<K: Tenants>(
     config: Config,
     events: &[Event],
 ) -> Result<Transcript<K>, ReplayFault<K>>
-    ensures run { IfOk result (λ done. IsRun config events.now done.steps.items done.service) }
-    ensures plainly { IfOk result (λ done. TellsPlainly config events.now done.steps.items done.service) }
-    ensures converses { IfOk result (λ done. ConversesOnEach config events.now done.steps.items done.service) }
-    ensures in_time { OnOk result (IsToldInTime (key_texts config.keys.items) (sizes_of config) events.now) }
+    ensures run { GivesRun result config events.now }
+    ensures plainly { RunsPlainly result config events.now }
+    ensures converses { RunsConverse result config events.now }
+    ensures in_time { OnOk result (RunsInTime config events.now) }
     ensures err { IfErr result (EndsEarly config events.now) }
 {
     let mut service = Service::new(alloc, config)?;

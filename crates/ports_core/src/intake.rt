@@ -3,7 +3,8 @@ ghost use Rattle.std.specs.Prelude.{◌≡◌, ◌<◌, true, All, length, optio
 ghost use Rattle.ports_core.specs.Keys.{key_texts, tenant_of};
 ghost use Rattle.ports_core.specs.Connections.{is_ready};
 ghost use Rattle.ports_core.specs.Places.{HasPlace};
-ghost use Rattle.ports_core.specs.Taking.{Taken, Whole, taken_of, refused_at_once, connection_after, Joins, TakesNext};
+ghost use Rattle.ports_core.specs.OpenConnections.{IsAfterTaking, TakesFirst};
+ghost use Rattle.ports_core.specs.Intake.{Whole, taken_of, refused_at_once, Joins};
 
 use crate::connection::Connection;
 use crate::event::Tell;
@@ -23,9 +24,7 @@ pub(crate) fn take_next(
 ) -> Option<Tell>
     requires keyed { length queues.old ≡ length keys.now }
     requires places { is_ready connection.old ≡ true → All HasPlace queues.old }
-    ensures { (taken : Taken)
-        × TakesNext (key_texts keys.now) conn taken result connection.old connection.new
-        × Joins (key_texts keys.now) conn taken queues.old queues.new }
+    ensures { TakesFirst keys.now conn result connection.old connection.new queues.old queues.new }
 {
     if !connection.is_ready() {
         return None;
@@ -46,8 +45,7 @@ fn settle(
     requires keyed { length queues.old ≡ length keys.now }
     requires places { All HasPlace queues.old }
     ensures told { result ≡ refused_at_once (key_texts keys.now) conn (taken_of answer) }
-    ensures connection { connection.new
-        ≡ connection_after (key_texts keys.now) (taken_of answer) connection.old }
+    ensures connection { IsAfterTaking keys.now (taken_of answer) connection.old connection.new }
     ensures queues { Joins (key_texts keys.now) conn (taken_of answer) queues.old queues.new }
 {
     match answer {
@@ -73,8 +71,7 @@ fn admit(
     requires keyed { length queues.old ≡ length keys.now }
     requires places { All HasPlace queues.old }
     ensures told { result ≡ refused_at_once (key_texts keys.now) conn (Whole request) }
-    ensures connection { connection.new
-        ≡ connection_after (key_texts keys.now) (Whole request) connection.old }
+    ensures connection { IsAfterTaking keys.now (Whole request) connection.old connection.new }
     ensures queues { Joins (key_texts keys.now) conn (Whole request) queues.old queues.new }
 {
     let close = request.close;

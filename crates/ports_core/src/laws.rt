@@ -1,16 +1,9 @@
 //! What holds of every run, as functions that do nothing.
-ghost use Rattle.std.specs.Prelude.{◌≡◌, ℕ, ◌<◌, List, length};
-ghost use Rattle.ports_core.specs.declared.event.Event.{Event};
-ghost use Rattle.ports_core.specs.Effects.{Effect};
-ghost use Rattle.ports_core.specs.Sharing.{Sizes};
-ghost use Rattle.ports_core.specs.State.{State, new_state};
 ghost use Rattle.ports_core.specs.Changes.{EachEventChangesSoMuch};
-ghost use Rattle.ports_core.specs.Runs.{Run};
 ghost use Rattle.ports_core.specs.Books.{OneListIsTaken};
-ghost use Rattle.ports_core.specs.Plainly.{IsToldPlainly};
-ghost use Rattle.ports_core.specs.Alike.{own_requests, AreToldAlike};
+ghost use Rattle.ports_core.specs.Alike.{EqualRequestsAreToldAlike};
 ghost use Rattle.ports_core.specs.Conversations.{EachConnectionConverses};
-ghost use Rattle.ports_core.specs.Isolation.{EachRunServesPlainly, EqualSlicesAreToldAlike};
+ghost use Rattle.ports_core.specs.Isolation.{EachRunServesPlainly, EachTenantIsToldPlainly, EqualSlicesAreToldAlike};
 ghost use Rattle.ports_core.specs.Languages.{EachStaysInItsProfile};
 ghost use Rattle.ports_core.specs.InTime.{EachRequestIsToldInTime, EachFirstHasTurnsLeft, EachRunIsToldInTime};
 
@@ -29,10 +22,7 @@ pub fn each_event_changes_so_much()
 /// turns. The replies told to a tenant, other than 503, are those of the plain service to the tenant's own
 /// requests, in their order. The requests that still wait are left out.
 pub fn each_tenant_is_told_plainly()
-    ensures { (keys : List (List ℕ)) (sizes : Sizes) (events : List Event) (steps : List Effect)
-        (service : State) (t : ℕ)
-        → t < length keys → Run (new_state keys sizes) events steps service
-        → IsToldPlainly keys t events steps service }
+    ensures { EachTenantIsToldPlainly }
 {}
 
 /// In every run of a service from its beginning, what a connection's stream asks is answered by the
@@ -54,12 +44,7 @@ pub fn one_list_is_taken()
 /// their replies are equal as far as both lists of replies go. Once none of their requests waits, all their
 /// replies are equal. What others stored, asked or left unread in either run changes nothing.
 pub fn equal_requests_are_told_alike()
-    ensures { (keys other_keys : List (List ℕ)) (t u : ℕ) (events other_events : List Event)
-        (steps others : List Effect) (service other : State)
-        → (told : IsToldPlainly keys t events steps service)
-        (told_there : IsToldPlainly other_keys u other_events others other)
-        → own_requests told ≡ own_requests told_there
-        → AreToldAlike t steps service u others other }
+    ensures { EqualRequestsAreToldAlike }
 {}
 
 /// In a run from any state, take the requests of a tenant that waited and those that came, less those

@@ -1,8 +1,9 @@
 //! The service, one event at a time.
 ghost use Rattle.std.specs.Prelude.{◌≡◌, ◌<◌, ◌↔◌, false, Bool, [], IsTrue, IfOk, IsErrOf, length, replicate};
 ghost use Rattle.refusals.specs.Refused.{refused};
+ghost use Rattle.ports_plain.specs.Outcomes.{IfMade};
 ghost use Rattle.ports_core.specs.declared.service.NewFault.TheVariants.{Memory};
-ghost use Rattle.ports_core.specs.Beginning.{new_fault};
+ghost use Rattle.ports_core.specs.NewFault.{new_fault};
 
 use crate::connection::Connection;
 use crate::connections::{
@@ -103,9 +104,9 @@ impl<K: Tenants> Service<K> {
     ghost use Rattle.ports_core.specs.State.{new_state, keys_of, slice_of, job_at, had_at, next_of, connections_of, connection_of};
     ghost use Rattle.ports_core.specs.Sharing.{sizes_of};
     ghost use Rattle.ports_core.specs.State.{sharing_of, room_at, pending_at, waiting_at, IsAllowed};
-    ghost use Rattle.ports_core.specs.Connections.{Fits};
-    ghost use Rattle.ports_core.specs.Telling.{spent_in, CountsNone, CountsTurns};
-    ghost use Rattle.ports_core.specs.Charging.{EventSpends, FitsTurn, TurnSpends};
+    ghost use Rattle.ports_core.specs.Connections.{MayHappenTo};
+    ghost use Rattle.ports_core.specs.Tell.{spent_as_told, CountsNone, CountsTurns};
+    ghost use Rattle.ports_core.specs.Charges.{EventSpends, FitsTurn, TurnSpends};
     ghost use Rattle.ports_core.specs.JobChanges.{ChangesJobs, KeepsJobs, TurnsJob};
     ghost use Rattle.ports_core.specs.SharingChanges.{ChangesSharing, KeepsSharing, UsesSharing};
     ghost use Rattle.ports_core.specs.Steps.{Does, Opens, Hears, Turns};
@@ -116,8 +117,7 @@ impl<K: Tenants> Service<K> {
     /// The error is `Config` exactly if the keys and sizes aren't fit. It is `Store` if the store of the
     /// worlds fails, and `Memory` if memory runs out.
     pub fn new(alloc: Global, config: Config) -> Result<Service<K>, NewFault>
-        ensures ok { IfOk result (λ service. service
-            ≡ new_state (key_texts config.keys.items) (sizes_of config)) }
+        ensures ok { IfMade result (new_state (key_texts config.keys.items) (sizes_of config)) }
         ensures unfit { IsErrOf result NewFault.Config ↔ (is_fit config ≡ false) }
     {
         if !config.is_fit() {
@@ -235,7 +235,7 @@ impl<K: Tenants> Service<K> {
         ensures does { Does event.now result self.old self.new }
         ensures counts { CountsTurns event.now result }
         ensures spends { EventSpends event.now result self.old }
-        ensures short { FitsTurn (spent_in result) }
+        ensures short { FitsTurn (spent_as_told result) }
         ensures jobs { ChangesJobs event.now result self.old self.new }
         ensures shares { ChangesSharing event.now self.old self.new }
     {
@@ -270,7 +270,7 @@ impl<K: Tenants> Service<K> {
     }
 
     fn hear(&mut self, conn: u64, event: &Event) -> Told
-        requires { OpenAnd (connection_of conn self.old) (Fits event.now) }
+        requires { OpenAnd (connection_of conn self.old) (MayHappenTo event.now) }
         ensures hears { Hears event.now conn result self.old self.new }
         ensures counts { CountsNone result }
         ensures jobs { KeepsJobs self.old self.new }
@@ -292,7 +292,7 @@ impl<K: Tenants> Service<K> {
         ensures turns { Turns tenant result self.old self.new }
         ensures counts { CountsTurns (Event.Turn tenant) result }
         ensures spends { TurnSpends (slice_of tenant self.old) (job_at tenant self.old) result }
-        ensures short { FitsTurn (spent_in result) }
+        ensures short { FitsTurn (spent_as_told result) }
         ensures jobs { TurnsJob tenant result self.old self.new }
         ensures shares { UsesSharing self.old self.new }
     {

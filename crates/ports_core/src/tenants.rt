@@ -1,11 +1,12 @@
 //! The tenants' worlds and jobs, as the service needs them.
-ghost use Rattle.std.specs.Prelude.{◌≡◌, ◌<◌, true, List, Option, None, length, replicate, IfOk, IfSome, IfNone};
-ghost use Rattle.mk_paths.specs.World.{World, opening_world};
-ghost use Rattle.ports_core.specs.Answering.{AnswersFor, AreBytesOf};
-ghost use Rattle.ports_core.specs.Charging.{ChargesFor, FitsTurn, GoesOn};
-ghost use Rattle.ports_core.specs.Jobs.{TenantJob, job_in, had_by, spent_on, job_after, IsForRequest, BecomesJob};
+ghost use Rattle.std.specs.Prelude.{◌≡◌, ◌<◌, true, List, Option, length, IfOk, IfSome};
+ghost use Rattle.mk_paths.specs.World.{World};
+ghost use Rattle.ports_core.specs.Answers.{AreBytesOf};
+ghost use Rattle.ports_core.specs.Charges.{FitsTurn};
+ghost use Rattle.ports_core.specs.Jobs.{TenantJob, job_in, had_by, IsForRequest};
 ghost use Rattle.ports_core.specs.Keys.{is_fit};
 ghost use Rattle.ports_core.specs.Sharing.{Sharing, IsUsed, sizes_of, unused};
+ghost use Rattle.ports_core.specs.TenantTurns.{BeginsJobs, BeginsWorlds, RepliesFor, TurnCharges, TurnLeavesJob, WorkGoesOn};
 
 use crate::counts::Counts;
 use crate::job::Job;
@@ -53,10 +54,8 @@ pub trait Tenants: Sized + Drop {
     /// The error is `Store` if what keeps them refuses, and `Memory` if memory runs out.
     fn new(alloc: Global, config: &Config) -> Result<Self, FilesFault>
         requires { is_fit config.now ≡ true }
-        ensures worlds { IfOk result (λ kept. worlds kept
-            ≡ replicate (length config.now.keys.items) opening_world) }
-        ensures jobs { IfOk result (λ kept. jobs kept
-            ≡ replicate (length config.now.keys.items) None) }
+        ensures worlds { BeginsWorlds worlds result config.now }
+        ensures jobs { BeginsJobs jobs result config.now }
         ensures sharing { IfOk result (λ kept. sharing kept ≡ unused (sizes_of config.now)) };
 
     /// A turn of work for a request over a tenant's world. What is under way for the tenant, if anything is,
@@ -80,17 +79,12 @@ pub trait Tenants: Sized + Drop {
     fn work(&mut self, alloc: Global, tenant: usize, request: &Request, close: bool) -> Worked
         requires there { tenant < length (worlds self.old) }
         requires for_request { IsForRequest request.now (job_in tenant (jobs self.old)) }
-        ensures answers { IfSome result.reply (λ answer. AnswersFor tenant request.now
-            answer.reply (worlds self.old) (worlds self.new)) }
-        ensures charges { IfSome result.reply (λ answer. ChargesFor tenant request.now answer.reply
-            (spent_on (job_in tenant (jobs self.old))) result.spent (worlds self.old)) }
+        ensures answers { RepliesFor tenant request.now result (worlds self.old) (worlds self.new) }
+        ensures charges { TurnCharges tenant request.now result (jobs self.old) (worlds self.old) }
         ensures bytes { IfSome result.reply (λ answer. AreBytesOf answer.reply close answer.bytes) }
-        ensures goes_on { IfNone result.reply (GoesOn tenant request.now
-            (had_by (job_in tenant (jobs self.old))) result.spent
-            (worlds self.old) (worlds self.new)) }
+        ensures goes_on { WorkGoesOn worlds jobs tenant request.now result self.old self.new }
         ensures short { FitsTurn result.spent }
-        ensures job { BecomesJob tenant (job_after request.now result.reply result.spent
-            (job_in tenant (jobs self.old))) (jobs self.old) (jobs self.new) }
+        ensures job { TurnLeavesJob tenant request.now result (jobs self.old) (jobs self.new) }
         ensures count { length (worlds self.new) ≡ length (worlds self.old) }
         ensures job_count { length (jobs self.new) ≡ length (jobs self.old) }
         ensures uses { IsUsed (sharing self.old) (sharing self.new) };

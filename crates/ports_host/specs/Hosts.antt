@@ -16,12 +16,12 @@ IsLocalAddress port address =
     (ip : Ipv4Addr) × (ipv4_octets ip ≡ 127 ∷ 0 ∷ 0 ∷ 1 ∷ []) × (socket_ip address ≡ ips.V4 ip) × (socket_port address ≡ port)
 
 -- a call that failed so is to be tried again later
-abbrev pub IsLater : ErrorKind → Type 0
-IsLater kind = (kind ≡ WouldBlock) ⊎ (kind ≡ Interrupted)
+abbrev pub IsTriedAgain : ErrorKind → Type 0
+IsTriedAgain kind = (kind ≡ WouldBlock) ⊎ (kind ≡ Interrupted)
 
 -- what a call brought that failed so: nothing yet, or a fault
 abbrev pub FailsAs : {T : Type 0} → ErrorKind → Outcome T → Type 0
-FailsAs kind outcome = (IsLater kind × (outcome ≡ Nothing)) ⊎ (¬ (IsLater kind) × (outcome ≡ Fault))
+FailsAs kind outcome = (IsTriedAgain kind × (outcome ≡ Nothing)) ⊎ (¬ (IsTriedAgain kind) × (outcome ≡ Fault))
 
 -- what a read of so many bytes brought: of none, the end
 abbrev pub heard : ℕ → Outcome ℕ

@@ -2,7 +2,7 @@
 ghost use Rattle.std.specs.Prelude.{◌≡◌, ◌↔◌, IsTrue, MatchResult};
 ghost use Rattle.std.specs.IoError.{error_kind};
 ghost use Rattle.ports_serve.specs.declared.wire.Outcome.TheVariants as outcomes;
-ghost use Rattle.ports_host.specs.Hosts.{IsLocalAddress, IsLater, FailsAs, heard};
+ghost use Rattle.ports_host.specs.Hosts.{IsLocalAddress, IsTriedAgain, FailsAs, heard};
 
 use mio::event::Event;
 use mio::net::{TcpListener, TcpStream};
@@ -273,7 +273,7 @@ fn outcome_of<T: Drop>(answer: io::Result<T>) -> Outcome<T>
 
 /// Whether the call is to be tried again later.
 fn is_later(error: &io::Error) -> bool
-    ensures { IsTrue result ↔ IsLater (error_kind error.now) }
+    ensures { IsTrue result ↔ IsTriedAgain (error_kind error.now) }
 {
     error.kind() == ErrorKind::WouldBlock || error.kind() == ErrorKind::Interrupted
 }

@@ -4,7 +4,7 @@ use Rattle.std.proofs.lemmas.List.{length-drop, drop-append-le, take_rest}
 use Rattle.std.specs.declared.alloc.Global.{Global}
 use Rattle.ports_http.specs.declared.conn.Conn.TheInside.{Inside}
 use Rattle.ports_http.specs.Limits.{unread_limit}
-use Rattle.ports_http.specs.Incoming.{Incoming, room_of, fed, ended, passed, Removes}
+use Rattle.ports_http.specs.UnreadBytes.{Incoming, room_of, fed, ended, passed, Removes}
 use Rattle.ports_http.specs.Messages.{RequestMessage}
 use Rattle.ports_http.specs.Streams.{RequestAt, Waits}
 use Rattle.ports_http.specs.Spans.{IsMissing}

@@ -8,8 +8,8 @@ use Rattle.ports_http.specs.declared.stream.StreamEnd.{StreamEnd}
 use Rattle.ports_http.specs.declared.stream.StreamEnd.TheVariants as ends
 use Rattle.ports_http.specs.Messages.{RequestMessage}
 use Rattle.ports_http.specs.Streams.{RequestAt, Waits, waiting, refused, closed, Cuts, Begins}
-use Rattle.ports_http.specs.Incoming.{Incoming, room_of, ended, fed, Takes}
-use Rattle.ports_http.specs.Decoding.{end_of, Decodes, with_found, end_after, IsSettled, DecodedSoFar}
+use Rattle.ports_http.specs.UnreadBytes.{Incoming, room_of, ended, fed, Takes}
+use Rattle.ports_http.specs.DecodedStream.{end_of, Decodes, with_found, end_after, WaitsOrIsOver, DecodedSoFar}
 use Rattle.ports_http.proofs.StreamLaws.{requests_stay, next_request, cuts_on, cuts_stay, closes_after, waiting_has_room}
 
 -- a head has bytes
@@ -73,7 +73,7 @@ so_far_on stream old new (Err fault) requests end takes so_far =
     (λ e. cc, subst (λ l. Cuts stream l (refused fault)) (append-nil requests) cut)
 
 -- a connection that has settled and isn't over has room
-pub settled_has_room : (incoming : Incoming) → incoming.over ≡ false → IsSettled incoming → 0 < room_of incoming
+pub settled_has_room : (incoming : Incoming) → incoming.over ≡ false → WaitsOrIsOver incoming → 0 < room_of incoming
 settled_has_room incoming begun settled =
     let waits = subst (λ b. MatchBool b (Unit {0}) (Waits incoming.unread)) begun settled in
     let room = waiting_has_room incoming.unread waits in
@@ -102,7 +102,7 @@ over_stays stream incoming requests end more over so_far =
 
 -- the whole stream, once the connection has settled
 pub settled_decodes : (stream : List ℕ) (incoming : Incoming) (requests : List RequestMessage) (end : StreamEnd)
-    → IsSettled incoming → DecodedSoFar stream incoming requests end → Decodes stream requests end
+    → WaitsOrIsOver incoming → DecodedSoFar stream incoming requests end → Decodes stream requests end
 settled_decodes stream incoming requests end settled so_far = by_over incoming.over refl
   where
     by_over : (over : Bool) → incoming.over ≡ over → Decodes stream requests end

@@ -3,7 +3,7 @@ use Rattle.std.proofs.Common.{ℕ, ◌+◌, ◌<◌, List, [], ◌∷◌, ◌++�
 use Rattle.std.proofs.lemmas.List.{take_more}
 use Rattle.std.proofs.lemmas.List.Folds.{length-flat_map-take}
 use Rattle.std.proofs.lemmas.Grind.{flat_map-append}
-use Rattle.ports_http.specs.Puts.{Appends, Puts}
+use Rattle.ports_http.specs.Puts.{Appends, AppendsIfRoom}
 
 -- the bytes of the next item, too
 pub puts_next : {X Z : Type 0} (f : X → List ℕ) (xs : List X) (i : ℕ) (d : X) (old out new : Vec ℕ Z) → i < length xs
@@ -27,7 +27,7 @@ puts_short f xs i d old out h before short =
 
 -- a call that failed
 pub puts_failed : {Z A E : Type 0} (old new : Vec ℕ Z) (bytes : List ℕ) (r : Result A E) → IsErr r
-    → vec_capacity old < vec_len old + length bytes → Puts old bytes r new
+    → vec_capacity old < vec_len old + length bytes → AppendsIfRoom old bytes r new
 puts_failed old new bytes (Ok x) e h = cc
 puts_failed old new bytes (Err x) e h = h
 
@@ -40,7 +40,7 @@ appends_both {old = old} {a = a} {b = b} x y = record {
 }
 
 pub puts_after : {Z A E : Type 0} {old middle : Vec ℕ Z} {a : List ℕ} (new : Vec ℕ Z) (b : List ℕ) (r : Result A E) → Appends old middle a
-    → Puts middle b r new → Puts old (a ++ b) r new
+    → AppendsIfRoom middle b r new → AppendsIfRoom old (a ++ b) r new
 puts_after new b (Ok x) before next = appends_both before next
 puts_after {old = old} {middle = middle} {a = a} new b (Err x) before next =
     let sizes = ap length before.items in

@@ -11,7 +11,7 @@ use Rattle.ports_http.specs.declared.fault.HeadFault.{HeadFault}
 use Rattle.ports_http.specs.declared.fault.HeadFault.TheVariants.{BodyTooLarge}
 use Rattle.ports_http.specs.Limits.{head_limit, body_limit, unread_limit}
 use Rattle.ports_http.specs.Messages.{RequestMessage}
-use Rattle.ports_http.specs.Fields.{NamedField, field_values, key_of, closes}
+use Rattle.ports_http.specs.Fields.{NamedField, field_values, request_key, ends_connection}
 use Rattle.ports_http.specs.Heads.{◌>>=◌, announced, announces, fields_of, method_named, no_coding, one_host, stated_length, body_length}
 use Rattle.ports_http.specs.Streams.{HeadAt, RequestAt, LacksBody, Refuses, IsTooLarge, HasTooManyLines, IsUnfinished, Waits, End, waiting, refused, closed, EndsAs, Cuts, Begins, LeftOpen}
 use Rattle.ports_http.proofs.OneMoreLemmas.{one_more_overflows, one_more_stays}
@@ -132,9 +132,9 @@ one_request stream a b r q x y =
     let bodies = same_split a.body b.body r q (ap (λ (p : Method × ℕ). p.1) says) heads.1 in
     let methods : a.method ≡ b.method = ap (λ (p : Method × ℕ). p.0) says in
     let targets : a.target ≡ b.target = x.target ∙ ap (λ (h : RequestHead). h.target) heads.0 ∙ sym y.target in
-    let keys : a.key ≡ b.key = x.key ∙ ap (λ (h : RequestHead). key_of (fields_of h)) heads.0 ∙ sym y.key in
+    let keys : a.key ≡ b.key = x.key ∙ ap (λ (h : RequestHead). request_key (fields_of h)) heads.0 ∙ sym y.key in
     let closing : a.close ≡ b.close =
-    x.close ∙ ap (λ (h : RequestHead). closes h.minor (fields_of h)) heads.0 ∙ sym y.close in (
+    x.close ∙ ap (λ (h : RequestHead). ends_connection h.minor (fields_of h)) heads.0 ∙ sym y.close in (
       λ i. record { method = methods i; target = targets i; body = bodies.0 i; key = keys i; close = closing i },
       bodies.1,
     )

@@ -10,7 +10,7 @@ use Rattle.httparse.specs.declared.spans.RequestSpans.{RequestSpans}
 use Rattle.httparse.proofs.GrammarLemmas.{ReadsRequest-append}
 use Rattle.ports_http.specs.declared.method.Method.{Method}
 use Rattle.ports_http.specs.Limits.{head_limit, field_limit}
-use Rattle.ports_http.specs.Fields.{key_of, closes}
+use Rattle.ports_http.specs.Fields.{request_key, ends_connection}
 use Rattle.ports_http.specs.Heads.{announced, announces}
 use Rattle.ports_http.specs.Streams.{RequestAt, LacksBody, IsUnfinished, BeginsOneMoreOpen, Waits}
 use Rattle.ports_http.specs.Spans.{named, CoversHead, message_at, IsWholeWithin, IsMissing}
@@ -100,8 +100,8 @@ whole_at spans method size key close = record {
 pub ready_request : (stream : List ℕ) (spans : RequestSpans) (fields : List HeaderSpan) (head : RequestHead)
     (method : Method) (size : ℕ) (key : Option Span) (close : Bool) → CoversHead stream spans fields head
     → announced (span_bytes stream spans.method) spans.version (named stream fields) ≡ Ok (method, size)
-    → size ≤ length stream - spans.len → option_map (span_bytes stream) key ≡ key_of (named stream fields)
-    → close ≡ closes spans.version (named stream fields)
+    → size ≤ length stream - spans.len → option_map (span_bytes stream) key ≡ request_key (named stream fields)
+    → close ≡ ends_connection spans.version (named stream fields)
     → RequestAt stream (message_at stream (whole_at spans method size key close)) (drop (spans.len + size) stream)
 ready_request stream spans fields head method size key close covers says fits key_is close_is =
     let cut = body_cut stream spans.len size covers.size fits in
@@ -115,7 +115,7 @@ ready_request stream spans fields head method size key close covers says fits ke
       announced =
           sym (announces_covered stream spans fields head covers) ∙ says ∙ ap (λ n. Ok (method, n)) (sym cut.1);
       target = covers.target;
-      key = key_is ∙ ap key_of covers.fields_are;
+      key = key_is ∙ ap request_key covers.fields_are;
       close = rw (covers.version, covers.fields_are) at close_is;
     }
 

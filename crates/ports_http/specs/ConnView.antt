@@ -1,7 +1,7 @@
 -- What a contract sees of a `Conn`, and what is true of its fields.
 use Rattle.std.specs.Prelude.{◌+◌, ◌≤◌, drop, vec_len, vec_capacity}
 use Rattle.ports_http.specs.declared.conn.Conn.TheInside.{Inside}
-use Rattle.ports_http.specs.Incoming.{Incoming}
+use Rattle.ports_http.specs.UnreadBytes.{Incoming}
 use Rattle.ports_http.specs.Spans.{IsMissing}
 use Rattle.ports_http.specs.Limits.{unread_limit}
 

@@ -4,6 +4,7 @@ use Rattle.std.specs.Prelude.{ℕ, Bool, ◌&&◌, ◌||◌, ◌==◌, nat_le, L
 use Rattle.std.specs.Char.{is_ascii_digit}
 use Rattle.std.specs.List.{list_all, list_any, slice_split}
 use Rattle.std.specs.Str.{str_eq_ignore_ascii_case}
+use Rattle.general_facts.specs.Ascii.{comma}
 use Rattle.httparse.specs.Grammar.{trim_ows}
 
 -- a name and a value
@@ -27,8 +28,8 @@ only_value (value ∷ []) = Some value
 only_value (value ∷ other ∷ values) = None
 
 -- the key of a request: the value of X-Ports-Key, if there is exactly one
-abbrev pub key_of : List NamedField → Option (List ℕ)
-key_of fields = only_value (field_values (codes "x-ports-key") fields)
+abbrev pub request_key : List NamedField → Option (List ℕ)
+request_key fields = only_value (field_values (codes "x-ports-key") fields)
 
 -- a Content-Length that is read: 1 to 18 decimal digits
 abbrev pub is_length : List ℕ → Bool
@@ -41,8 +42,8 @@ is_close_option word = str_eq_ignore_ascii_case (trim_ows word) (codes "close")
 -- a Connection field that has close among its options, which commas separate
 abbrev pub is_closing : NamedField → Bool
 is_closing field =
-    is_named (codes "connection") field && list_any is_close_option (slice_split (λ b. b == 44) field.1)
+    is_named (codes "connection") field && list_any is_close_option (slice_split (λ b. b == comma) field.1)
 
 -- whether the connection ends after a request: always with HTTP/1.0, else if a field says so
-abbrev pub closes : ℕ → List NamedField → Bool
-closes minor fields = minor == 0 || list_any is_closing fields
+abbrev pub ends_connection : ℕ → List NamedField → Bool
+ends_connection minor fields = minor == 0 || list_any is_closing fields

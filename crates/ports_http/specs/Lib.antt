@@ -3,7 +3,7 @@ pub mod Messages
 pub mod Fields
 pub mod Heads
 pub mod Streams
-pub mod Incoming
+pub mod UnreadBytes
 pub mod Replies
 pub mod Spans
 pub mod ConnView
@@ -11,4 +11,4 @@ pub mod ReplyView
 pub mod RequestView
 pub mod Puts
 pub mod Laws
-pub mod Decoding
+pub mod DecodedStream

@@ -7,6 +7,6 @@ pub record Appends {Z : Type 0} (old new : Vec ℕ Z) (bytes : List ℕ) : Type 
   pub room : vec_capacity old ≤ vec_capacity new
 
 -- the bytes were added, or else the room was too small for them
-abbrev pub Puts : {Z A E : Type 0} → Vec ℕ Z → List ℕ → Result A E → Vec ℕ Z → Type 0
-Puts old bytes (Ok done) new = Appends old new bytes
-Puts old bytes (Err error) new = vec_capacity old < vec_len old + length bytes
+abbrev pub AppendsIfRoom : {Z A E : Type 0} → Vec ℕ Z → List ℕ → Result A E → Vec ℕ Z → Type 0
+AppendsIfRoom old bytes (Ok done) new = Appends old new bytes
+AppendsIfRoom old bytes (Err error) new = vec_capacity old < vec_len old + length bytes

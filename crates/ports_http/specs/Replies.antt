@@ -88,3 +88,7 @@ store_failed = record {
 -- the reply fits the bytes that are kept for a fixed one
 abbrev pub IsFixed : ReplyMessage → Bool → Type 0
 IsFixed reply close = length (reply_text reply close) ≤ fixed_limit
+
+-- the reply of this status with this body, without a list of methods
+abbrev pub plain_reply : ℕ → Option Content → List ℕ → ReplyMessage
+plain_reply status content body = record { status = status; body = body; content = content; allow = [] }

@@ -1,5 +1,7 @@
 -- The parts of a request as places in the unread bytes.
 use Rattle.std.specs.Prelude.{◌≡◌, ◌⊎◌, ℕ, ◌+◌, ◌≤◌, ◌<◌, List, [], ◌∷◌, length, drop, map, All, option_map, IfSome}
+use Rattle.std.specs.Prelude.{Result, Option, Vec, IfOk}
+use Rattle.std.specs.Global.{Global}
 use Rattle.httparse.specs.Grammar.{RequestHead}
 use Rattle.httparse.specs.Spans.{span_bytes, IsWithin, IsHeaderWithin, header_bytes}
 use Rattle.httparse.specs.declared.spans.Span.{Span}
@@ -11,7 +13,7 @@ use Rattle.ports_http.specs.declared.first.Whole.{Whole}
 use Rattle.ports_http.specs.declared.first.First.{First}
 use Rattle.ports_http.specs.declared.first.First.TheVariants as first
 use Rattle.ports_http.specs.Messages.{RequestMessage}
-use Rattle.ports_http.specs.Fields.{NamedField}
+use Rattle.ports_http.specs.Fields.{NamedField, field_values}
 use Rattle.ports_http.specs.Heads.{fields_of}
 use Rattle.ports_http.specs.Streams.{HeadAt, RequestAt, Refuses, Waits, LacksBody}
 
@@ -70,3 +72,11 @@ ComesFirst stream (first.Waiting missing) = Waits stream × IsMissing stream mis
 ComesFirst stream (first.Refused fault) = Refuses stream fault
 ComesFirst stream (first.Ready whole) =
     RequestAt stream (message_at stream whole) (drop whole.body.end stream) × IsWholeWithin stream whole
+
+-- the values of the field of this name, as spans of these bytes give the fields
+abbrev pub values_in : List ℕ → List HeaderSpan → List ℕ → List (List ℕ)
+values_in bytes fields name = field_values name (named bytes fields)
+
+-- where a function succeeds, it gives the bytes of a key that stands there, if there is one
+abbrev pub GivesKey : {F : Type 0} → Result (Option (Vec ℕ Global)) F → List ℕ → Option Span → Type 0
+GivesKey result bytes key = IfOk result (λ given. option_map (λ (k : Vec ℕ Global). k.items) given ≡ option_map (span_bytes bytes) key)

@@ -10,7 +10,7 @@ use Rattle.ports_http.specs.declared.fault.HeadFault.{HeadFault}
 use Rattle.ports_http.specs.declared.fault.HeadFault.TheVariants.{Malformed, HeadTooLarge}
 use Rattle.ports_http.specs.Limits.{head_limit, field_limit}
 use Rattle.ports_http.specs.Messages.{RequestMessage}
-use Rattle.ports_http.specs.Fields.{key_of, closes}
+use Rattle.ports_http.specs.Fields.{request_key, ends_connection}
 use Rattle.ports_http.specs.Heads.{announces, fields_of}
 
 -- a head within the limits comes first in the stream, and rest follows it
@@ -25,8 +25,8 @@ pub record RequestAt (stream : List ℕ) (request : RequestMessage) (rest : List
   pub stands : HeadAt stream head (request.body ++ rest)
   pub announced : announces head ≡ Ok (request.method, length request.body)
   pub target : request.target ≡ head.target
-  pub key : request.key ≡ key_of (fields_of head)
-  pub close : request.close ≡ closes head.minor (fields_of head)
+  pub key : request.key ≡ request_key (fields_of head)
+  pub close : request.close ≡ ends_connection head.minor (fields_of head)
 
 -- there is no head, and bytes may follow that make one, or the target goes on
 abbrev pub IsUnfinished : List ℕ → Type 0

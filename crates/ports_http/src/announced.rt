@@ -3,7 +3,7 @@ ghost use Rattle.std.specs.Prelude.{◌≡◌, length, codes, All, Option, Resul
 ghost use Rattle.httparse.specs.Spans.{IsHeaderWithin};
 ghost use Rattle.ports_http.specs.Fields.{field_values};
 ghost use Rattle.ports_http.specs.Heads.{announced, no_coding, one_host, stated_length, body_length};
-ghost use Rattle.ports_http.specs.Spans.{named};
+ghost use Rattle.ports_http.specs.Spans.{named, values_in};
 
 use crate::fault::HeadFault;
 use crate::fields::{Occurs, find, length_of};
@@ -34,8 +34,7 @@ pub(crate) fn announced(
 
 fn no_coding(buf: &[u8], fields: &[HeaderSpan]) -> Result<(), HeadFault>
     requires { All (IsHeaderWithin (length buf.now)) fields.now }
-    ensures { result
-        ≡ no_coding (field_values (codes "transfer-encoding") (named buf.now fields.now)) }
+    ensures { result ≡ no_coding (values_in buf.now fields.now (codes "transfer-encoding")) }
 {
     match find(buf, fields, "transfer-encoding") {
         Occurs::Never => Ok(()),
@@ -56,8 +55,7 @@ fn one_host(minor: u8, buf: &[u8], fields: &[HeaderSpan]) -> Result<(), HeadFaul
 
 fn stated_length(buf: &[u8], fields: &[HeaderSpan]) -> Result<Option<u64>, HeadFault>
     requires { All (IsHeaderWithin (length buf.now)) fields.now }
-    ensures { result
-        ≡ stated_length (field_values (codes "content-length") (named buf.now fields.now)) }
+    ensures { result ≡ stated_length (values_in buf.now fields.now (codes "content-length")) }
 {
     match find(buf, fields, "content-length") {
         Occurs::Never => Ok(None),

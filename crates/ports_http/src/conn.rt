@@ -1,14 +1,13 @@
 //! The bytes of one connection that aren't taken yet.
-ghost use Rattle.std.specs.Prelude.{◌≡◌, ◌+◌, ◌≤◌, length, drop, vec_len, vec_capacity, IfOk, IfSome, IsUtf8, option_map};
+ghost use Rattle.std.specs.Prelude.{◌≡◌, ◌+◌, ◌≤◌, length, drop, vec_len, vec_capacity, IfOk, IfSome, IsUtf8};
 ghost use Rattle.httparse.specs.Spans.{IsWithin, span_bytes};
-ghost use Rattle.ports_http.specs.Incoming.{opening, ended, room_of, fed, passed, TakesOrLoses};
-ghost use Rattle.ports_http.specs.Spans.{message_at, IsWholeWithin};
+ghost use Rattle.ports_http.specs.UnreadBytes.{opening_stream, ended, room_of, fed, passed, TakesOrLoses};
+ghost use Rattle.ports_http.specs.Spans.{message_at, IsWholeWithin, GivesKey};
 
 use crate::fault::HeadFault;
 use crate::first::{First, Whole, read_first};
 use crate::request::{Request, TakeError};
 use httparse::spans::Span;
-use refusals::OutOfMemory;
 use std::alloc::{AllocError, Global};
 use std::marker::Model;
 use std::str;
@@ -33,7 +32,7 @@ pub struct Conn {
 }
 
 impl Model for Conn {
-    ghost use Rattle.ports_http.specs.Incoming.{Incoming};
+    ghost use Rattle.ports_http.specs.UnreadBytes.{Incoming};
 
     ghost Value = { Incoming };
 
@@ -47,7 +46,7 @@ impl Model for Conn {
 impl Conn {
     /// A connection that has just opened, with all its buffers reserved. It fails only if memory runs out.
     pub fn new(alloc: Global) -> Result<Conn, AllocError>
-        ensures { IfOk result (λ conn. conn ≡ opening) }
+        ensures { IfOk result (λ conn. conn ≡ opening_stream) }
     {
         Ok(Conn {
             buffer: Vec::with_capacity(alloc, RESERVED)?,
@@ -138,10 +137,7 @@ impl Conn {
                 self.pass(whole.body.end, whole.close);
                 match copied {
                     Ok(request) => Ok(Some(Ok(request))),
-                    Err(error) => Err(TakeError::Memory {
-                        close: whole.close,
-                        refused: OutOfMemory::from(error),
-                    }),
+                    Err(error) => Err(TakeError::lost(whole.close, error)),
                 }
             }
         }
@@ -185,8 +181,7 @@ fn request_at(alloc: Global, unread: &[u8], whole: &Whole) -> Result<Request, Al
 
 fn key_at(alloc: Global, unread: &[u8], key: Option<Span>) -> Result<Option<Vec<u8>>, AllocError>
     requires { IfSome key (IsWithin (length unread.now)) }
-    ensures { IfOk result (λ bytes. option_map (λ k. k.items) bytes
-        ≡ option_map (span_bytes unread.now) key) }
+    ensures { GivesKey result unread.now key }
 {
     match key {
         Some(span) => Ok(Some(Vec::from_slice(alloc, span.of(unread))?)),

@@ -5,7 +5,7 @@ ghost use Rattle.std.specs.Char.{is_ascii_digit};
 ghost use Rattle.std.specs.Str.Parse.{digits_value};
 ghost use Rattle.httparse.specs.Grammar.{is_ows, trim_ows};
 ghost use Rattle.httparse.specs.Spans.{IsWithin, IsHeaderWithin, span_bytes, header_bytes};
-ghost use Rattle.ports_http.specs.Fields.{field_values, is_named, is_length, is_close_option, is_closing, closes, key_of};
+ghost use Rattle.ports_http.specs.Fields.{field_values, is_named, is_length, is_close_option, is_closing, ends_connection, request_key};
 ghost use Rattle.ports_http.specs.Spans.{OccursAs, with_one, named};
 
 use httparse::spans::{HeaderSpan, Span};
@@ -55,7 +55,7 @@ fn is_named(buf: &[u8], field: HeaderSpan, name: &str) -> bool
 /// The value of `X-Ports-Key`, if there is exactly one.
 pub(crate) fn key_of(buf: &[u8], fields: &[HeaderSpan]) -> Option<Span>
     requires { All (IsHeaderWithin (length buf.now)) fields.now }
-    ensures value { option_map (span_bytes buf.now) result ≡ key_of (named buf.now fields.now) }
+    ensures value { option_map (span_bytes buf.now) result ≡ request_key (named buf.now fields.now) }
     ensures within { IfSome result (IsWithin (length buf.now)) }
 {
     match find(buf, fields, "x-ports-key") {
@@ -67,7 +67,7 @@ pub(crate) fn key_of(buf: &[u8], fields: &[HeaderSpan]) -> Option<Span>
 /// Whether the connection ends after a request of this minor version with these fields.
 pub(crate) fn closes(minor: u8, buf: &[u8], fields: &[HeaderSpan]) -> bool
     requires { All (IsHeaderWithin (length buf.now)) fields.now }
-    ensures { result ≡ closes minor (named buf.now fields.now) }
+    ensures { result ≡ ends_connection minor (named buf.now fields.now) }
 {
     if minor == 0 {
         return true;

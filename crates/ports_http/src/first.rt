@@ -81,23 +81,22 @@ fn after_head(unread: &[u8], spans: &RequestSpans, fields: &[HeaderSpan]) -> Fir
     ensures { ComesFirst unread.now result }
 {
     let word = spans.method.of(unread);
-    match announced(word, spans.version, unread, fields) {
-        Err(fault) => First::Refused(fault),
-        Ok((method, length)) => {
-            let come = unread.len() - spans.len;
-            if come < length {
-                return First::Waiting(length - come);
-            }
-            First::Ready(Whole {
-                method,
-                target: spans.path,
-                body: Span {
-                    start: spans.len,
-                    end: spans.len + length,
-                },
-                key: key_of(unread, fields),
-                close: closes(spans.version, unread, fields),
-            })
-        }
+    let (method, length) = match announced(word, spans.version, unread, fields) {
+        Ok(told) => told,
+        Err(fault) => return First::Refused(fault),
+    };
+    let come = unread.len() - spans.len;
+    if come < length {
+        return First::Waiting(length - come);
     }
+    First::Ready(Whole {
+        method,
+        target: spans.path,
+        body: Span {
+            start: spans.len,
+            end: spans.len + length,
+        },
+        key: key_of(unread, fields),
+        close: closes(spans.version, unread, fields),
+    })
 }

@@ -1,7 +1,7 @@
 //! Replies.
 ghost use Rattle.std.specs.Prelude.{◌≡◌, [], Bool, Option, Some, None};
 ghost use Rattle.ports_http.specs.Messages.{ReplyMessage};
-ghost use Rattle.ports_http.specs.Replies.{content_text, unknown_key, store_failed, IsFixed};
+ghost use Rattle.ports_http.specs.Replies.{content_text, unknown_key, store_failed, IsFixed, plain_reply};
 
 use crate::method::Method;
 use http::StatusCode;
@@ -58,8 +58,7 @@ impl Model for Reply {
 impl Reply {
     /// A reply whose body is a text of the program's own, which takes no memory.
     pub fn of_text(status: StatusCode, content: Option<Content>, text: &'static str) -> Reply
-        ensures { result
-            ≡ record { status = status; body = text.now; content = content; allow = [] } }
+        ensures { result ≡ plain_reply status content text.now }
     {
         Reply {
             status,
@@ -71,8 +70,7 @@ impl Reply {
 
     /// A reply with these bytes as its body.
     pub fn of_bytes(status: StatusCode, content: Option<Content>, body: Vec<u8>) -> Reply
-        ensures { result
-            ≡ record { status = status; body = body.items; content = content; allow = [] } }
+        ensures { result ≡ plain_reply status content body.items }
     {
         Reply {
             status,

@@ -1,6 +1,11 @@
 //! Requests.
+ghost use Rattle.std.specs.Prelude.{◌≡◌};
+ghost use Rattle.refusals.specs.Refused.{refused};
+ghost use Rattle.ports_http.specs.declared.request.TakeError.TheVariants.{Memory};
+
 use crate::method::Method;
 use refusals::OutOfMemory;
+use std::alloc::AllocError;
 use std::error::Error;
 use std::fmt;
 use std::marker::Model;
@@ -34,6 +39,18 @@ impl Model for Request {
 pub enum TakeError {
     /// There was no memory for the request. Its bytes are lost; `close` is what the request said.
     Memory { close: bool, refused: OutOfMemory },
+}
+
+impl TakeError {
+    /// A request with this `close` is lost, since there was no memory for it.
+    pub(crate) fn lost(close: bool, error: AllocError) -> TakeError
+        ensures { result ≡ Memory close refused }
+    {
+        TakeError::Memory {
+            close,
+            refused: OutOfMemory::from(error),
+        }
+    }
 }
 
 impl fmt::Display for TakeError {

@@ -1,7 +1,7 @@
 //! A whole stream, decoded piece by piece.
-ghost use Rattle.std.specs.Prelude.{◌≡◌, ℕ, List, ◌++◌, IfOk, OnOk};
-ghost use Rattle.std.specs.List.{flat_map};
-ghost use Rattle.ports_http.specs.Decoding.{Decodes, with_found, end_after, IsSettled, DecodedSoFar};
+ghost use Rattle.std.specs.Prelude.{◌≡◌, OnOk};
+ghost use Rattle.ports_http.specs.DecodedStream.{end_after, WaitsOrIsOver, DecodesWhole};
+ghost use Rattle.ports_http.specs.DecodedStream.{DecodesPiece, DecodesAll, AddsFound};
 
 use crate::conn::Conn;
 use crate::fault::HeadFault;
@@ -29,8 +29,7 @@ pub struct Decoded {
 /// The requests of the stream that comes in these pieces, and how it ends. It doesn't matter how the stream
 /// was cut into pieces: the clause speaks of the whole stream alone. It fails only if memory runs out.
 pub fn decode(alloc: Global, pieces: &[Vec<u8>]) -> Result<Decoded, AllocError>
-    ensures { IfOk result (λ d. Decodes
-        (flat_map (λ piece. piece.items) pieces.now) d.requests.items d.end) }
+    ensures { DecodesWhole result pieces.now }
 {
     let mut conn = Conn::new(alloc)?;
     let mut decoded = Decoded {
@@ -51,11 +50,9 @@ fn decode_piece(
     conn: &mut Conn,
     decoded: &mut Decoded,
 ) -> Result<(), AllocError>
-    requires { IsSettled conn.old }
-    ensures settled { OnOk result (IsSettled conn.new) }
-    ensures decoded { OnOk result ((stream : List ℕ)
-        → DecodedSoFar stream conn.old decoded.old.requests.items decoded.old.end
-        → DecodedSoFar (stream ++ piece.now) conn.new decoded.new.requests.items decoded.new.end) }
+    requires { WaitsOrIsOver conn.old }
+    ensures settled { OnOk result (WaitsOrIsOver conn.new) }
+    ensures decoded { DecodesPiece result piece.now conn.old conn.new decoded.old decoded.new }
 {
     let mut rest = piece;
     'feeding: while !rest.is_empty() && !conn.is_over() {
@@ -69,10 +66,8 @@ fn decode_piece(
 
 /// Takes all that is whole.
 fn take_all(alloc: Global, conn: &mut Conn, decoded: &mut Decoded) -> Result<(), AllocError>
-    ensures settled { OnOk result (IsSettled conn.new) }
-    ensures decoded { OnOk result ((stream : List ℕ)
-        → DecodedSoFar stream conn.old decoded.old.requests.items decoded.old.end
-        → DecodedSoFar stream conn.new decoded.new.requests.items decoded.new.end) }
+    ensures settled { OnOk result (WaitsOrIsOver conn.new) }
+    ensures decoded { DecodesAll result conn.old conn.new decoded.old decoded.new }
 {
     'taking: loop {
         match conn.next_request(alloc) {
@@ -87,8 +82,7 @@ fn take_all(alloc: Global, conn: &mut Conn, decoded: &mut Decoded) -> Result<(),
 
 /// Notes a request, or the refusal that ends the stream.
 fn note(found: Result<Request, HeadFault>, decoded: &mut Decoded) -> Result<(), AllocError>
-    ensures requests { OnOk result (decoded.new.requests.items
-        ≡ with_found decoded.old.requests.items found) }
+    ensures requests { AddsFound result decoded.old decoded.new found }
     ensures end { OnOk result (decoded.new.end ≡ end_after found) }
 {
     match found {

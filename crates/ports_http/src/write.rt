@@ -2,7 +2,7 @@
 ghost use Rattle.std.specs.Prelude.{◌≡◌, ◌+◌, ◌≤◌, ◌<◌, [], ◌++◌, length, codes, decimal, IfOk, OnOk, OnErr, vec_len, vec_capacity};
 ghost use Rattle.std.specs.List.{flat_map};
 ghost use Rattle.ports_http.specs.Limits.{fixed_limit};
-ghost use Rattle.ports_http.specs.Puts.{Puts};
+ghost use Rattle.ports_http.specs.Puts.{AppendsIfRoom};
 ghost use Rattle.ports_http.specs.Replies.{reply_text, reply_head, line, content_line, next_method, allow_line};
 ghost use Rattle.ports_http.specs.Replies.{close_line, status_text, IsFixed};
 
@@ -36,7 +36,7 @@ pub fn write_fixed(reply: &Reply, close: bool, out: &mut Vec<u8>)
 /// Adds the bytes of a reply. It fails only if the room was too small.
 #[tactic(auto, unfolding(crate::specs::Replies::reply_text))]
 fn put_reply(reply: &Reply, close: bool, out: &mut Vec<u8>) -> Result<(), AllocError>
-    ensures { Puts out.old (reply_text reply.now close) result out.new }
+    ensures { AppendsIfRoom out.old (reply_text reply.now close) result out.new }
 {
     let body = reply.body();
     put_head(reply, close, body.len(), out)?;
@@ -46,7 +46,7 @@ fn put_reply(reply: &Reply, close: bool, out: &mut Vec<u8>) -> Result<(), AllocE
 
 /// Adds all but the body, which has this many bytes.
 fn put_head(reply: &Reply, close: bool, size: usize, out: &mut Vec<u8>) -> Result<(), AllocError>
-    ensures { Puts out.old (reply_head reply.now close size) result out.new }
+    ensures { AppendsIfRoom out.old (reply_head reply.now close size) result out.new }
 {
     put_status(reply.status, out)?;
     put_content(reply.content, out)?;
@@ -59,7 +59,7 @@ fn put_head(reply: &Reply, close: bool, size: usize, out: &mut Vec<u8>) -> Resul
 /// Adds the status line.
 #[tactic(auto, unfolding(crate::specs::Replies::status_text))]
 fn put_status(status: StatusCode, out: &mut Vec<u8>) -> Result<(), AllocError>
-    ensures { Puts out.old (line (codes "HTTP/1.1 " ++ status_text status)) result out.new }
+    ensures { AppendsIfRoom out.old (line (codes "HTTP/1.1 " ++ status_text status)) result out.new }
 {
     put_text("HTTP/1.1 ", out)?;
     put_text(status.as_str(), out)?;
@@ -69,7 +69,7 @@ fn put_status(status: StatusCode, out: &mut Vec<u8>) -> Result<(), AllocError>
 
 /// Adds the Content-Type line, if there is a type.
 fn put_content(content: Option<Content>, out: &mut Vec<u8>) -> Result<(), AllocError>
-    ensures { Puts out.old (content_line content) result out.new }
+    ensures { AppendsIfRoom out.old (content_line content) result out.new }
 {
     match content {
         Some(content) => put_line("Content-Type: ", content.as_str(), out),
@@ -79,7 +79,7 @@ fn put_content(content: Option<Content>, out: &mut Vec<u8>) -> Result<(), AllocE
 
 /// Adds the Connection line, if the connection closes.
 fn put_close(close: bool, out: &mut Vec<u8>) -> Result<(), AllocError>
-    ensures { Puts out.old (close_line close) result out.new }
+    ensures { AppendsIfRoom out.old (close_line close) result out.new }
 {
     if close {
         put_line("Connection: ", "close", out)
@@ -90,7 +90,7 @@ fn put_close(close: bool, out: &mut Vec<u8>) -> Result<(), AllocError>
 
 /// Adds the Allow line, if there are methods.
 fn put_allow(allow: &[Method], out: &mut Vec<u8>) -> Result<(), AllocError>
-    ensures { Puts out.old (allow_line allow.now) result out.new }
+    ensures { AppendsIfRoom out.old (allow_line allow.now) result out.new }
 {
     match allow.split_first() {
         None => Ok(()),
@@ -105,7 +105,7 @@ fn put_allow(allow: &[Method], out: &mut Vec<u8>) -> Result<(), AllocError>
 
 /// Adds each method after a comma and a blank.
 fn put_methods(methods: &[Method], out: &mut Vec<u8>) -> Result<(), AllocError>
-    ensures { Puts out.old (flat_map next_method methods.now) result out.new }
+    ensures { AppendsIfRoom out.old (flat_map next_method methods.now) result out.new }
 {
     for method in methods {
         put_method(*method, out)?;
@@ -115,7 +115,7 @@ fn put_methods(methods: &[Method], out: &mut Vec<u8>) -> Result<(), AllocError>
 
 /// Adds a method after a comma and a blank.
 fn put_method(method: Method, out: &mut Vec<u8>) -> Result<(), AllocError>
-    ensures { Puts out.old (next_method method) result out.new }
+    ensures { AppendsIfRoom out.old (next_method method) result out.new }
 {
     put_text(", ", out)?;
     put_text(method.as_str(), out)
@@ -123,7 +123,7 @@ fn put_method(method: Method, out: &mut Vec<u8>) -> Result<(), AllocError>
 
 /// Adds a line of these two parts.
 fn put_line(name: &str, value: &str, out: &mut Vec<u8>) -> Result<(), AllocError>
-    ensures { Puts out.old (line (name.now ++ value.now)) result out.new }
+    ensures { AppendsIfRoom out.old (line (name.now ++ value.now)) result out.new }
 {
     put_text(name, out)?;
     put_text(value, out)?;
@@ -132,7 +132,7 @@ fn put_line(name: &str, value: &str, out: &mut Vec<u8>) -> Result<(), AllocError
 
 /// Adds a text.
 fn put_text(text: &str, out: &mut Vec<u8>) -> Result<(), AllocError>
-    ensures { Puts out.old text.now result out.new }
+    ensures { AppendsIfRoom out.old text.now result out.new }
 {
     out.extend_from_slice(text.as_bytes())
 }

@@ -6,12 +6,12 @@ use Rattle.std.specs.List.{cons_option, filter_map, flat_map}
 use Rattle.std.specs.Str.{bytes_eq}
 use Rattle.text_parts.specs.Order.{in_order}
 use Rattle.ports_index.specs.PathOutcomes.{PathOutcome}
-use Rattle.ports_index.specs.Naming.{named_at}
+use Rattle.ports_index.specs.TreePaths.{named_at}
 use Rattle.port_rules.specs.Depends.{DependValue}
 use Rattle.port_deps.specs.Items.{wanted_of}
-use Rattle.ports_index.specs.Depending.{target_by, target_in, targets_in}
-use Rattle.ports_index.specs.Filling.{is_one_of}
-use Rattle.ports_index.specs.Alike.{AreAlikeAt, AlikeRowsListTheSame, items_of}
+use Rattle.ports_index.specs.Dependencies.{target_by, target_in, targets_in}
+use Rattle.ports_index.specs.FilledRows.{is_one_of}
+use Rattle.ports_index.specs.Alike.{AreAlikeAt, AlikeRowsListTheSame, dependency_items}
 use Rattle.ports_index.proofs.TargetLemmas.{targets-among}
 
 module _ (old new : List ℕ → PathOutcome) where
@@ -35,11 +35,11 @@ module _ (old new : List ℕ → PathOutcome) where
       ∙ ap (λ more. targets_in (old path) ++ more) (targets-alike paths (others path paths alike))
 
 -- what items name depends on their texts alone
-pub targets-by_items : (new old : List DependValue) → items_of new ≡ items_of old → filter_map target_by new ≡ filter_map target_by old
+pub targets-by_items : (new old : List DependValue) → dependency_items new ≡ dependency_items old → filter_map target_by new ≡ filter_map target_by old
 targets-by_items new old same =
     sym (by_texts new) ∙ ap (filter_map (λ item. target_in (wanted_of item))) same ∙ by_texts old
   where
-    by_texts : (depends : List DependValue) → filter_map (λ item. target_in (wanted_of item)) (items_of depends) ≡ filter_map target_by depends
+    by_texts : (depends : List DependValue) → filter_map (λ item. target_in (wanted_of item)) (dependency_items depends) ≡ filter_map target_by depends
     by_texts [] = refl
     by_texts (depend ∷ depends) = ap (cons_option (target_by depend)) (by_texts depends)
 

@@ -11,22 +11,23 @@ use Rattle.std.specs.Option.{option_and_then, option_map, unwrap_or}
 use Rattle.std.specs.Prelude.{nat_le}
 use Rattle.std.specs.Str.{bytes_eq}
 use Rattle.text_parts.specs.Laws.{are_between, is_between}
-use Rattle.mk_paths.specs.FileName.{slash, is_plain, joined, parts_of}
+use Rattle.general_facts.specs.Ascii.{slash}
+use Rattle.mk_paths.specs.FileName.{is_plain, with_slashes, parts_of_name}
 use Rattle.mk_paths.specs.Place.{candidates, place}
 use Rattle.mk_paths.specs.SearchPath.{IsSearchPath, is_tree}
 use Rattle.mk_paths.specs.World.{World, files_in, search_path_of}
-use Rattle.pkg_path.specs.Paths.{PathValue, is_bare, is_bare_path, path_if_one, path_of, value_of}
-use Rattle.port_deps.specs.Reading.{has_comma}
+use Rattle.pkg_path.specs.Paths.{PathValue, is_bare_directory, is_bare_path, path_if_one, path_of, value_of}
+use Rattle.port_deps.specs.ItemText.{has_comma}
 use Rattle.port_deps.proofs.PlainPaths.{uncut}
 use Rattle.ports_index.specs.Efforts.{is_there}
-use Rattle.ports_index.specs.Filling.{is_one_of}
+use Rattle.ports_index.specs.FilledRows.{is_one_of}
 use Rattle.ports_index.specs.Makefiles.{AreOfDirectories}
-use Rattle.ports_index.specs.Naming.{after_slash, directories, directory_below, directory_of, if_directory, is_slash, without_end}
+use Rattle.ports_index.specs.TreePaths.{after_slash, directories, directory_below, listable_directory, if_directory, is_slash, without_suffix}
 use Rattle.ports_index.specs.PathOutcomes.{finding_at, finding_in, finding_named, finding_of, own_directory}
 use Rattle.ports_index.proofs.MakefileLemmas.{directory-there}
 use Rattle.ports_index.proofs.MakefileNames.{IsNamedBy, in_tree, is_no_dot, last, named_in, named_own}
 use Rattle.ports_index.proofs.PathReading.{has_directory, ok_if, read_as}
-use Rattle.ports_index.proofs.PlaceLemmas.{ends-so, joined-end}
+use Rattle.ports_index.proofs.PlaceLemmas.{ends-so, with_slashes-end}
 
 -- ---- the directory that the name of a makefile says
 
@@ -45,7 +46,7 @@ after-part (byte ∷ part) rest none =
     let e = apart_by (is_slash byte) (list_any is_slash part) none in
     after_next byte (part ++ slash ∷ rest) e.0 ∙ after-part part rest e.1
 
-without-own : (text : List ℕ) → without_end (codes "/Makefile") (text ++ codes "/Makefile") ≡ Some text
+without-own : (text : List ℕ) → without_suffix (codes "/Makefile") (text ++ codes "/Makefile") ≡ Some text
 without-own text =
     let end = codes "/Makefile" in
     ap (λ (b : Bool). if b then Some (take (length (text ++ end) - length end) (text ++ end)) else None) (ends-so text)
@@ -54,11 +55,11 @@ without-own text =
 
 -- the makefile of the directory with these parts below its tree
 named-below : (part : List ℕ) (stem : List (List ℕ)) → list_any is_slash part ≡ false
-    → directory_of (joined (part ∷ (stem ++ last ∷ []))) ≡ if_directory (directory_below (part ++ joined stem))
-unfolding directory_of
+    → listable_directory (with_slashes (part ∷ (stem ++ last ∷ []))) ≡ if_directory (directory_below (part ++ with_slashes stem))
+unfolding listable_directory
 named-below part stem none =
-    ap (λ name. option_and_then if_directory (option_map directory_below (option_and_then after_slash (without_end (codes "/Makefile") name)))) (joined-end (part ∷ stem))
-    ∙ ap (λ text. option_and_then if_directory (option_map directory_below (option_and_then after_slash text))) (without-own (joined (part ∷ stem)))
+    ap (λ name. option_and_then if_directory (option_map directory_below (option_and_then after_slash (without_suffix (codes "/Makefile") name)))) (with_slashes-end (part ∷ stem))
+    ∙ ap (λ text. option_and_then if_directory (option_map directory_below (option_and_then after_slash text))) (without-own (with_slashes (part ∷ stem)))
 
 none_between : (mark plain : Bool) → (plain && not mark) ≡ true → mark ≡ false
 none_between true true e = absurd (false≢true e)
@@ -71,40 +72,40 @@ none-in (byte ∷ part) e =
     let all = and_parts (is_between slash is_plain byte) (list_all (is_between slash is_plain) part) e in
     ap (λ b. b || list_any is_slash part) (none_between (is_slash byte) (is_plain byte) all.0) ∙ none-in part all.1
 
-joined-cut : (part : List ℕ) (parts : List (List ℕ)) → joined (part ∷ parts) ≡ slash ∷ join_with_byte 47 (part ∷ parts)
-joined-cut part [] = ap (λ text. slash ∷ text) (append-nil part)
-joined-cut part (next ∷ more) = ap (λ text. slash ∷ part ++ text) (joined-cut next more)
+with_slashes-cut : (part : List ℕ) (parts : List (List ℕ)) → with_slashes (part ∷ parts) ≡ slash ∷ join_with_byte 47 (part ∷ parts)
+with_slashes-cut part [] = ap (λ text. slash ∷ text) (append-nil part)
+with_slashes-cut part (next ∷ more) = ap (λ text. slash ∷ part ++ text) (with_slashes-cut next more)
 
-joined-some : (parts : List (List ℕ)) → 0 < length parts → joined parts ≡ slash ∷ join_with_byte 47 parts
-joined-some [] some = absurd (omega (arith, some))
-joined-some (part ∷ parts) some = joined-cut part parts
+with_slashes-some : (parts : List (List ℕ)) → 0 < length parts → with_slashes parts ≡ slash ∷ join_with_byte 47 parts
+with_slashes-some [] some = absurd (omega (arith, some))
+with_slashes-some (part ∷ parts) some = with_slashes-cut part parts
 
-joined-parts : (directory : List ℕ) → joined (parts_of directory) ≡ slash ∷ directory
-joined-parts directory =
-    joined-some (parts_of directory) (omega (arith, length-slice_split (λ byte. byte == slash) directory)) ∙ ap (λ text. slash ∷ text) (join_with_byte-slice_split 47 directory)
+with_slashes-parts : (directory : List ℕ) → with_slashes (parts_of_name directory) ≡ slash ∷ directory
+with_slashes-parts directory =
+    with_slashes-some (parts_of_name directory) (omega (arith, length-slice_split (λ byte. byte == slash) directory)) ∙ ap (λ text. slash ∷ text) (join_with_byte-slice_split 47 directory)
 
 module _ (stem : List (List ℕ)) (name : List ℕ) (named : IsNamedBy stem name) where
   apart : list_any is_slash named.part ≡ false
   apart = none-in named.part (and_parts (list_all (is_between slash is_plain) named.part) (are_between slash is_plain (stem ++ last ∷ [])) named.between).0
 
-  below : directory_of name ≡ if_directory (directory_below (named.part ++ joined stem))
-  below = ap directory_of named.is ∙ named-below named.part stem apart
+  below : listable_directory name ≡ if_directory (directory_below (named.part ++ with_slashes stem))
+  below = ap listable_directory named.is ∙ named-below named.part stem apart
 
 none-after : (text : List ℕ) → list_any is_slash text ≡ false → directory_below text ≡ own_directory
 none-after text none = ap (λ b. unwrap_or (cond b (Some (after_first is_slash text)) None) own_directory) none
 
-own-named : (name : List ℕ) → IsNamedBy [] name → directory_of name ≡ Some own_directory
+own-named : (name : List ℕ) → IsNamedBy [] name → listable_directory name ≡ Some own_directory
 own-named name named =
     below [] name named
     ∙ ap (λ text. if_directory (directory_below text)) (append-nil named.part)
     ∙ ap if_directory (none-after named.part (apart [] name named))
 
-path-named : (path name : List ℕ) → is_bare path ≡ true → IsNamedBy (parts_of path) name → directory_of name ≡ Some path
+path-named : (path name : List ℕ) → is_bare_directory path ≡ true → IsNamedBy (parts_of_name path) name → listable_directory name ≡ Some path
 path-named path name bare named =
-    below (parts_of path) name named
-    ∙ ap (λ text. if_directory (directory_below (named.part ++ text))) (joined-parts path)
-    ∙ ap (λ after. if_directory (unwrap_or after own_directory)) (after-part named.part path (apart (parts_of path) name named))
-    ∙ ap (λ b. cond b (Some path) None) (or_right (bytes_eq path own_directory) (is_bare path) bare)
+    below (parts_of_name path) name named
+    ∙ ap (λ text. if_directory (directory_below (named.part ++ text))) (with_slashes-parts path)
+    ∙ ap (λ after. if_directory (unwrap_or after own_directory)) (after-part named.part path (apart (parts_of_name path) name named))
+    ∙ ap (λ b. cond b (Some path) None) (or_right (bytes_eq path own_directory) (is_bare_directory path) bare)
 
 -- ---- a makefile that is found is there
 
@@ -132,7 +133,7 @@ module _ (world : World) (trees : IsSearchPath (search_path_of world)) where
     found : (name : List ℕ) × (place world directory ≡ Some name)
     found = there-place flavors (place world directory) there
 
-    among : directory_of found.0 ≡ Some path → is_one_of path (directories (files_in world)) ≡ true
+    among : listable_directory found.0 ≡ Some path → is_one_of path (directories (files_in world)) ≡ true
     among is = directory-there path found.0 is (files_in world) (find-holds (contains_key (files_in world)) (candidates (search_path_of world) directory) found.0 found.1)
 
   own : (path : List ℕ) → path ≡ own_directory → is_there (finding_in world path None).outcome ≡ true → is_one_of path (directories (files_in world)) ≡ true
@@ -148,9 +149,9 @@ module _ (world : World) (trees : IsSearchPath (search_path_of world)) where
       let read = ok_if (path_of path) value is in
       let whole : value_of (path ∷ []) ≡ value = ap value_of (sym (uncut path none)) ∙ (read_as path value read).0 in
       let directory : value.directory ≡ path = ap (λ (v : PathValue). v.directory) (sym whole) in
-      let bare : is_bare path ≡ true = ap is_bare_path (is ∙ ap Some (sym whole)) in
+      let bare : is_bare_directory path ≡ true = ap is_bare_path (is ∙ ap Some (sym whole)) in
       let here = subst (λ d. is_there (finding_in world d value.flavors).outcome ≡ true) directory there in
-      let parts = subst (λ d. list_all is_no_dot (parts_of d) ≡ true) directory (has_directory path value read) in
+      let parts = subst (λ d. list_all is_no_dot (parts_of_name d) ≡ true) directory (has_directory path value read) in
       let at = found path path value.flavors here in
       let tree = in_tree (files_in world) path at.0 (search_path_of world) all_trees at.1 in
       among path path value.flavors here (path-named path at.0 bare (named_in tree.0 tree.1 path at.0 tree.2 parts))

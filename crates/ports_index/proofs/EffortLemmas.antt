@@ -9,7 +9,7 @@ use Rattle.text_parts.specs.Ordered.{among, in_order-sorted, among-in_order, sam
 use Rattle.mk_paths.specs.World.{World}
 use Rattle.ports_index.specs.PathOutcomes.{PathOutcome, outcome_at}
 use Rattle.ports_index.specs.Efforts.{lacking}
-use Rattle.ports_index.specs.Filling.{is_one_of, Fills}
+use Rattle.ports_index.specs.FilledRows.{is_one_of, Fills}
 use Rattle.ports_index.proofs.Filled.{Entries}
 use Rattle.ports_index.proofs.Totals.{unless, sum-joined, sum-filter}
 

@@ -8,7 +8,7 @@ use Rattle.text_parts.specs.Order.{in_order}
 use Rattle.text_parts.specs.Ordered.{among-in_order}
 use Rattle.mk_paths.specs.World.{World}
 use Rattle.ports_index.specs.PathOutcomes.{PathOutcome, outcome_at}
-use Rattle.ports_index.specs.Filling.{is_one_of}
+use Rattle.ports_index.specs.FilledRows.{is_one_of}
 use Rattle.ports_index.specs.Seen.{known_in}
 
 abbrev pub Entries : Type 0

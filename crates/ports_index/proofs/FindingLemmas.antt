@@ -4,11 +4,11 @@ use Rattle.std.proofs.lemmas.List.Elements.{All-rest}
 use Rattle.std.specs.Prelude.{MatchOption}
 use Rattle.std.specs.List.{All}
 use Rattle.std.specs.Option.{option_to_list}
-use Rattle.ports_index.specs.Finding.{IsEntryOf, IsFinderOf, ahead_of}
+use Rattle.ports_index.specs.Finders.{IsEntryOf, IsFinderOf, ahead_of}
 use Rattle.ports_index.specs.Seen.{Said, entries_in, known_seen, row_seen}
 use Rattle.ports_index.specs.declared.noted_rows.KnownRow.{KnownRow}
-use Rattle.ports_index.specs.declared.keeping.MemoryRows.{MemoryRows}
-use Rattle.ports_index.specs.declared.keeping.RowFinder.{RowFinder}
+use Rattle.ports_index.specs.declared.memory_rows.MemoryRows.{MemoryRows}
+use Rattle.ports_index.specs.declared.memory_rows.RowFinder.{RowFinder}
 
 abbrev Entry : Type 0
 Entry = String Global × KnownRow

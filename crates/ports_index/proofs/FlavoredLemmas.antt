@@ -2,9 +2,9 @@
 use Rattle.std.proofs.Common.{◌≡◌, ap, refl, ℕ, Bool, true, false, if◌then◌else◌, List, [], ◌∷◌, Option, Some, None, IfSome}
 use Rattle.std.specs.List.{cons_option, filter, filter_map}
 use Rattle.pkg_path.specs.Paths.{port_path}
-use Rattle.port_deps.specs.Reading.{NamesPlainPath, WantedValue, has_comma, wanted_of}
+use Rattle.port_deps.specs.ItemText.{NamesPlainPath, WantedValue, has_comma, wanted_of}
 use Rattle.port_rules.specs.Depends.{DependValue}
-use Rattle.ports_index.specs.Depending.{target_in}
+use Rattle.ports_index.specs.Dependencies.{target_in}
 use Rattle.ports_index.specs.Flavored.{flavored_target, if_flavored}
 
 -- they are what each item names, if that has a comma

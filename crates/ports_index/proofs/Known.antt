@@ -5,8 +5,8 @@ use Rattle.text_parts.specs.Order.{in_order}
 use Rattle.mk_paths.specs.World.{World}
 use Rattle.port_deps.specs.Edges.{edge_of}
 use Rattle.ports_index.specs.PathOutcomes.{PathOutcome, outcome_at}
-use Rattle.ports_index.specs.Naming.{named_in, named_at, listed_from}
-use Rattle.ports_index.specs.Depending.{RootItemValue, state_of, root_with, root_at, roots_among, items_in, items_at, items_among, target_of, found_of, found_at, edge_at}
+use Rattle.ports_index.specs.TreePaths.{named_in, named_at, listed_from}
+use Rattle.ports_index.specs.Dependencies.{RootItemValue, root_state, root_with, root_at, roots_among, items_in, items_at, items_among, target_of, found_of, found_at, edge_at}
 use Rattle.ports_index.proofs.Filled.{AreKnown}
 use Rattle.ports_index.specs.Seen.{known_in}
 
@@ -29,7 +29,7 @@ module _ (world : World) (entries : List ℕ → Option PathOutcome) where
   pub roots-known : (paths : List (List ℕ)) → AreKnown world entries paths → roots_among (known_in entries) paths ≡ roots_among (outcome_at world) paths
   roots-known [] known = refl
   roots-known (path ∷ paths) known =
-      ap (λ outcome. cons_option (root_with path (state_of outcome)) (roots_among (known_in entries) paths)) known.0
+      ap (λ outcome. cons_option (root_with path (root_state outcome)) (roots_among (known_in entries) paths)) known.0
       ∙ ap (λ more. cons_option (root_at (outcome_at world) path) more) (roots-known paths known.1)
 
   found-known : (target : Option (List ℕ)) (more : List (List ℕ)) → AreKnown world entries (cons_option target more)

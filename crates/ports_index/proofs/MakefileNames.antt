@@ -10,7 +10,8 @@ use Rattle.std.specs.List.{list_all, slice_split, onto_first, filter_map, find, 
 use Rattle.std.specs.Option.{option_and_then}
 use Rattle.std.specs.Result.{result_ok}
 use Rattle.std.specs.Str.{bytes_eq}
-use Rattle.mk_paths.specs.FileName.{slash, is_plain, parts_of, kept_parts, with_part, without_last, joined, name_of, resolved}
+use Rattle.general_facts.specs.Ascii.{slash}
+use Rattle.mk_paths.specs.FileName.{is_plain, parts_of_name, kept_parts, with_part, without_last, with_slashes, name_of_parts, resolved}
 use Rattle.mk_paths.specs.Place.{makefile_in, place_among}
 use Rattle.mk_paths.specs.SearchPath.{is_tree, is_part, may_be_in_part}
 use Rattle.mk_paths.specs.World.{FileMap}
@@ -73,12 +74,12 @@ ok_of : (test : Bool) (wanted name : List ℕ) → cond test (Ok wanted) (Err Ba
 ok_of true wanted name e = cc
 ok_of false wanted name e = cc
 
-resolved_by : (first plain : Bool) (parts : Option (List (List ℕ))) (name : List ℕ) → cond (first && plain) (name_of parts) (Err BadName) ≡ Ok name
-    → (plain ≡ true) × ((kept : List (List ℕ)) → parts ≡ Some kept → name ≡ joined kept)
+resolved_by : (first plain : Bool) (parts : Option (List (List ℕ))) (name : List ℕ) → cond (first && plain) (name_of_parts parts) (Err BadName) ≡ Ok name
+    → (plain ≡ true) × ((kept : List (List ℕ)) → parts ≡ Some kept → name ≡ with_slashes kept)
 resolved_by false plain parts name e = absurd cc
 resolved_by true false parts name e = absurd cc
 resolved_by true true None name e = absurd cc
-resolved_by true true (Some kept) name e = (refl, λ other is. ok_of _ (joined kept) name e ∙ ap (λ parts. joined (elim parts as (λ _. List (List ℕ)) [ None ↦ [] | Some parts ↦ parts ])) is)
+resolved_by true true (Some kept) name e = (refl, λ other is. ok_of _ (with_slashes kept) name e ∙ ap (λ parts. with_slashes (elim parts as (λ _. List (List ℕ)) [ None ↦ [] | Some parts ↦ parts ])) is)
 
 -- the last part of a makefile's name
 abbrev pub last : List ℕ
@@ -91,18 +92,18 @@ parts_with part stem = part ∷ (stem ++ last ∷ [])
 -- The name of a makefile in a directory with these parts. The trees' own directory has none.
 pub record IsNamedBy (stem : List (List ℕ)) (name : List ℕ) : Type 0 where
   pub part : List ℕ
-  pub is : name ≡ joined (parts_with part stem)
+  pub is : name ≡ with_slashes (parts_with part stem)
   pub between : are_between slash is_plain (parts_with part stem) ≡ true
 
 -- so the name says which parts the directory has
 
-cut_joined : (part : List ℕ) (stem : List (List ℕ)) → are_between slash is_plain (parts_with part stem) ≡ true → parts_of (joined (parts_with part stem)) ≡ [] ∷ parts_with part stem
+cut_joined : (part : List ℕ) (stem : List (List ℕ)) → are_between slash is_plain (parts_with part stem) ≡ true → parts_of_name (with_slashes (parts_with part stem)) ≡ [] ∷ parts_with part stem
 cut_joined part stem between = written_is_cut_again slash is_plain [] (parts_with part stem) between
 
 pub one_stem : (stem other : List (List ℕ)) (name : List ℕ) → IsNamedBy stem name → IsNamedBy other name → stem ≡ other
 one_stem stem other name a b =
     let whole : parts_with a.part stem ≡ parts_with b.part other =
-    ap (drop 1) (sym (cut_joined a.part stem a.between) ∙ ap parts_of (sym a.is ∙ b.is) ∙ cut_joined b.part other b.between) in
+    ap (drop 1) (sym (cut_joined a.part stem a.between) ∙ ap parts_of_name (sym a.is ∙ b.is) ∙ cut_joined b.part other b.between) in
     append_cancel_right stem other (last ∷ []) (ap (drop 1) whole)
 
 -- the trees of a search path
@@ -124,7 +125,7 @@ module _ (part : List ℕ) (is : is_part part ≡ true) where
   apart = no_slash part (and_parts (is_no_dot part) (list_all may_be_in_part part) is).1
 
   -- the parts of such a name, as it is written
-  cut_name : (directory : List ℕ) → parts_of (makefile_in (slash ∷ part) directory) ≡ [] ∷ parts_with part (parts_of directory)
+  cut_name : (directory : List ℕ) → parts_of_name (makefile_in (slash ∷ part) directory) ≡ [] ∷ parts_with part (parts_of_name directory)
   cut_name directory =
       slice_split-cons_yes (λ byte. byte == slash) slash (part ++ slash ∷ directory ++ codes "/Makefile") refl
       ∙ ap (λ l. [] ∷ l)
@@ -136,21 +137,21 @@ module _ (part : List ℕ) (is : is_part part ≡ true) where
     abbrev text : List ℕ
     text = makefile_in (slash ∷ part) directory
 
-    parts : (list_all is_plain text ≡ true) × ((kept : List (List ℕ)) → kept_parts [] (parts_of text) ≡ Some kept → name ≡ joined kept)
-    parts = resolved_by true (list_all is_plain text) (kept_parts [] (parts_of text)) name e
+    parts : (list_all is_plain text ≡ true) × ((kept : List (List ℕ)) → kept_parts [] (parts_of_name text) ≡ Some kept → name ≡ with_slashes kept)
+    parts = resolved_by true (list_all is_plain text) (kept_parts [] (parts_of_name text)) name e
 
-    plain : are_between slash is_plain (parts_with part (parts_of directory)) ≡ true
+    plain : are_between slash is_plain (parts_with part (parts_of_name directory)) ≡ true
     plain = ap (are_between slash is_plain) (sym (cut_name directory)) ∙ parts_are_between slash is_plain text parts.0
 
     -- in a directory whose parts stay as they are
-    pub named_in : list_all is_no_dot (parts_of directory) ≡ true → IsNamedBy (parts_of directory) name
+    pub named_in : list_all is_no_dot (parts_of_name directory) ≡ true → IsNamedBy (parts_of_name directory) name
     unfolding kept_parts
     named_in dots =
-        let whole : list_all is_no_dot (parts_with part (parts_of directory)) ≡ true =
-        and_from (is_no_dot part) (list_all is_no_dot (parts_of directory ++ last ∷ [])) no_dot (joined_dots (parts_of directory) dots) in
+        let whole : list_all is_no_dot (parts_with part (parts_of_name directory)) ≡ true =
+        and_from (is_no_dot part) (list_all is_no_dot (parts_of_name directory ++ last ∷ [])) no_dot (joined_dots (parts_of_name directory) dots) in
         record {
           part = part;
-          is = parts.1 (parts_with part (parts_of directory)) (ap (kept_parts []) (cut_name directory) ∙ kept_again [] (parts_with part (parts_of directory)) (kept_all (parts_with part (parts_of directory)) whole plain));
+          is = parts.1 (parts_with part (parts_of_name directory)) (ap (kept_parts []) (cut_name directory) ∙ kept_again [] (parts_with part (parts_of_name directory)) (kept_all (parts_with part (parts_of_name directory)) whole plain));
           between = plain;
         }
       where
@@ -164,7 +165,7 @@ module _ (part : List ℕ) (is : is_part part ≡ true) where
     pub named_own : directory ≡ codes "." → IsNamedBy [] name
     unfolding kept_parts
     named_own own =
-        let cut : parts_of text ≡ [] ∷ part ∷ codes "." ∷ last ∷ [] = cut_name directory ∙ ap (λ d. [] ∷ parts_with part (parts_of d)) own in
+        let cut : parts_of_name text ≡ [] ∷ part ∷ codes "." ∷ last ∷ [] = cut_name directory ∙ ap (λ d. [] ∷ parts_with part (parts_of_name d)) own in
         let between : are_between slash is_plain (part ∷ codes "." ∷ last ∷ []) ≡ true = ap (are_between slash is_plain) (sym cut) ∙ parts_are_between slash is_plain text parts.0 in
         record {
           part = part;

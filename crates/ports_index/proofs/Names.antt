@@ -4,7 +4,7 @@ use Rattle.std.proofs.lemmas.Bool.{cond-true, cond-false}
 use Rattle.std.proofs.lemmas.Bool.Decides.{nat_tests}
 use Rattle.std.proofs.lemmas.Str.Pattern.{ends_text}
 use Rattle.std.specs.List.{list_any, ends_with, position_or_len, after_first}
-use Rattle.ports_index.specs.Naming.{is_slash, after_slash, without_end}
+use Rattle.ports_index.specs.TreePaths.{is_slash, after_slash, without_suffix}
 
 any_step : (passes rest : Bool) (place size : ℕ) → rest ≡ ltb place size → (passes || rest) ≡ ltb (cond (not passes) (1 + place) 0) (suc size)
 any_step true rest place size is = grind (arith, nat_tests)
@@ -25,6 +25,6 @@ after_slash-some text after at is =
     let inside : ltb (position_or_len is_slash text) (length text) ≡ true = grind (arith, nat_tests) in
     ap Some is ∙ sym (cond-true (list_any is_slash text) (Some (after_first is_slash text)) None (any_at is_slash text ∙ inside))
 
-pub without_end-none : (end text : List ℕ) → ((front : List ℕ) → text ≢ front ++ end) → None ≡ without_end end text
-without_end-none end text none =
+pub without_suffix-none : (end text : List ℕ) → ((front : List ℕ) → text ≢ front ++ end) → None ≡ without_suffix end text
+without_suffix-none end text none =
     sym (cond-false (ends_with eqb text end) (Some (take (length text - length end) text)) None (sym (ends_text false end text none)))

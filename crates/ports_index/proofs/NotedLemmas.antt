@@ -11,7 +11,7 @@ use Rattle.std.specs.Ordering.{is_eq, nat_cmp}
 use Rattle.std.specs.Str.{bytes_eq}
 use Rattle.general_facts.specs.Lists.{list_any-map}
 use Rattle.std.proofs.lemmas.Cmp.{nat_list_eq_equiv}
-use Rattle.ports_index.specs.Filling.{is_one_of}
+use Rattle.ports_index.specs.FilledRows.{is_one_of}
 use Rattle.ports_index.specs.AskedNames.{Notes, KeepsNotes, KeepsOtherNotes, is_in, asks_in, asks_one_of}
 use Rattle.ports_index.specs.declared.noted_rows.KnownRow.{KnownRow}
 

@@ -13,9 +13,9 @@ use Rattle.mk_base.specs.FaultAt.{FaultAt}
 use Rattle.port_rules.specs.Ports.{PortValue}
 use Rattle.port_deps.specs.Items.{ItemValue, item_of}
 use Rattle.port_deps.specs.Roots.{RootValue, RootEdgeValue}
-use Rattle.ports_index.specs.Depending.{edge_at, edges_among, edges_from, item_at, items_at, items_among, items_in, root_among, root_at, root_with, roots_among, state_of}
-use Rattle.ports_index.specs.Filling.{is_one_of}
-use Rattle.ports_index.specs.Naming.{AreInOrder}
+use Rattle.ports_index.specs.Dependencies.{edge_at, edges_among, edges_from, item_at, items_at, items_among, items_in, root_among, root_at, root_with, roots_among, root_state}
+use Rattle.ports_index.specs.FilledRows.{is_one_of}
+use Rattle.ports_index.specs.TreePaths.{AreInOrder}
 use Rattle.ports_index.specs.PathOutcomes.{PathOutcome, Absent, Faulty, Port, BadPort, Lists, BadList, FlavoredList, Other}
 
 module _ (outcomes : List ℕ → PathOutcome) (path : List ℕ) where
@@ -31,13 +31,13 @@ module _ (outcomes : List ℕ → PathOutcome) (path : List ℕ) where
   -- (by the state of the root at the first path)
   root_by : (one : List ℕ) (paths : List (List ℕ)) (outcome : PathOutcome) (same : Bool) → outcomes one ≡ outcome → bytes_eq one path ≡ same
       → find is_at (roots_among outcomes paths) ≡ (if is_one_of path paths then root_at outcomes path else None)
-      → find is_at (cons_option (root_with one (state_of outcome)) (roots_among outcomes paths)) ≡ (if (same || is_one_of path paths) then root_at outcomes path else None)
-  root_by one paths outcome same is e rest = by (state_of outcome) refl same e
+      → find is_at (cons_option (root_with one (root_state outcome)) (roots_among outcomes paths)) ≡ (if (same || is_one_of path paths) then root_at outcomes path else None)
+  root_by one paths outcome same is e rest = by (root_state outcome) refl same e
     where
-      at_path : bytes_eq one path ≡ true → root_at outcomes path ≡ root_with one (state_of outcome)
-      at_path same = ap (root_at outcomes) (sym ((bytes_eq-Decides one path).0 same)) ∙ ap (λ found. root_with one (state_of found)) is
+      at_path : bytes_eq one path ≡ true → root_at outcomes path ≡ root_with one (root_state outcome)
+      at_path same = ap (root_at outcomes) (sym ((bytes_eq-Decides one path).0 same)) ∙ ap (λ found. root_with one (root_state found)) is
 
-      by : (state : Option (Result PortValue FaultAt)) → state_of outcome ≡ state → (same : Bool) → bytes_eq one path ≡ same
+      by : (state : Option (Result PortValue FaultAt)) → root_state outcome ≡ state → (same : Bool) → bytes_eq one path ≡ same
           → find is_at (cons_option (root_with one state) (roots_among outcomes paths)) ≡ (if (same || is_one_of path paths) then root_at outcomes path else None)
       by None none true e =
           let absent : root_at outcomes path ≡ None = at_path e ∙ ap (root_with one) none in

@@ -5,7 +5,7 @@ use Rattle.std.specs.List.{sum_by, filter_map, flat_map, cons_option}
 use Rattle.std.specs.Str.{bytes_eq}
 use Rattle.text_parts.specs.Ordered.{in_order-again}
 use Rattle.mk_eval.specs.Expanded.{Expanded}
-use Rattle.mk_eval.specs.Meaning.{means, value_of}
+use Rattle.mk_eval.specs.Meaning.{means, value_of_variable}
 use Rattle.mk_eval.specs.declared.outcome.Evaluated.{Evaluated}
 use Rattle.mk_eval.specs.declared.outcome.Failed.{Failed}
 use Rattle.mk_eval.specs.declared.outcome.Kind.{Kind}
@@ -14,14 +14,14 @@ use Rattle.mk_paths.specs.Place.{place}
 use Rattle.mk_paths.specs.World.{World, files_in}
 use Rattle.pkg_path.specs.Paths.{PathValue, path_if_one}
 use Rattle.port_rules.specs.Records.{record_of}
-use Rattle.port_rules.specs.declared.recording.Recorded.{Recorded}
+use Rattle.port_rules.specs.declared.records.Recorded.{Recorded}
 use Rattle.std.specs.Prelude.{codes, option_map, option_and_then}
 use Rattle.ports_index.specs.PathOutcomes.{port_finding, list_finding, list_after, finding_by, finding_of_evaluation, finding_of, finding_in, finding_named, finding_at, cost_at, own_directory}
 use Rattle.ports_index.specs.Efforts.{is_there, evaluations_for, evaluations_at}
 use Rattle.ports_index.specs.Index.{listed_paths}
-use Rattle.ports_index.specs.Naming.{directories, named_at}
+use Rattle.ports_index.specs.TreePaths.{directories, named_at}
 use Rattle.ports_index.specs.PathOutcomes.{outcome_at}
-use Rattle.ports_index.specs.Depending.{items_among, target_of}
+use Rattle.ports_index.specs.Dependencies.{items_among, target_of}
 use Rattle.ports_index.specs.Pairs.{Pair, pair_in, pair_named, pair_at, pairs_at}
 use Rattle.ports_index.specs.PathLaws.{ListedPathsCostNoMore, MakefilesAreEvaluated}
 use Rattle.ports_index.proofs.Totals.{sum-joined}
@@ -36,7 +36,7 @@ list_there spent (Err failed) = refl
 
 after_there : (makefile : List ℕ) (flavors : Option (List (List ℕ))) (evaluated : Evaluated) → is_there (list_after makefile flavors evaluated).outcome ≡ true
 after_there makefile (Some flavors) evaluated = refl
-after_there makefile None evaluated = list_there evaluated.cost (value_of evaluated.env makefile (codes "SUBDIR"))
+after_there makefile None evaluated = list_there evaluated.cost (value_of_variable evaluated.env makefile (codes "SUBDIR"))
 
 kind_there : (makefile : List ℕ) (flavors : Option (List (List ℕ))) (evaluated : Evaluated) (kind : Kind) → is_there (finding_by makefile flavors evaluated kind).outcome ≡ true
 kind_there makefile flavors evaluated kinds.Port = port_there evaluated.cost (record_of evaluated.env makefile)

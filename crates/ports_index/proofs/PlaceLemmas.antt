@@ -9,7 +9,8 @@ use Rattle.std.specs.Result.{result_ok}
 use Rattle.std.specs.Str.{bytes_eq}
 use Rattle.general_facts.specs.Lists.{slice_split-first}
 use Rattle.mk_eval.specs.Meaning.{means}
-use Rattle.mk_paths.specs.FileName.{is_plain, joined, kept_parts, name_of, parts_of, resolved, slash, with_part}
+use Rattle.mk_paths.specs.FileName.{is_plain, with_slashes, kept_parts, name_of_parts, parts_of_name, resolved, with_part}
+use Rattle.general_facts.specs.Ascii.{slash}
 use Rattle.mk_paths.specs.Place.{candidates, makefile_in, place}
 use Rattle.mk_paths.specs.World.{FileMap, World}
 use Rattle.mk_paths.specs.declared.file_name.NameFault.{NameFault}
@@ -26,7 +27,7 @@ use Rattle.ports_index.proofs.PairLemmas.{evaluation_there}
 abbrev last : List ℕ
 last = codes "Makefile"
 
-split_by : (x : ℕ) (xs ys : List ℕ) (b : Bool) → (x == slash) ≡ b → parts_of (xs ++ ys) ≡ parts_of xs ++ last ∷ [] → parts_of (x ∷ xs ++ ys) ≡ parts_of (x ∷ xs) ++ last ∷ []
+split_by : (x : ℕ) (xs ys : List ℕ) (b : Bool) → (x == slash) ≡ b → parts_of_name (xs ++ ys) ≡ parts_of_name xs ++ last ∷ [] → parts_of_name (x ∷ xs ++ ys) ≡ parts_of_name (x ∷ xs) ++ last ∷ []
 split_by x xs ys true is rest =
     slice_split-cons_yes (λ byte. byte == slash) x (xs ++ ys) is ∙ ap (λ parts. [] ∷ parts) rest
     ∙ sym (ap (λ parts. parts ++ last ∷ []) (slice_split-cons_yes (λ byte. byte == slash) x xs is))
@@ -35,7 +36,7 @@ split_by x xs ys false is rest =
     slice_split-cons_no (λ byte. byte == slash) x (xs ++ ys) is ∙ ap (onto_first x) (rest ∙ ap (λ parts. parts ++ last ∷ []) cut.2)
     ∙ sym (ap (λ parts. parts ++ last ∷ []) (slice_split-cons_no (λ byte. byte == slash) x xs is ∙ ap (onto_first x) cut.2))
 
-parts-end : (text : List ℕ) → parts_of (text ++ codes "/Makefile") ≡ parts_of text ++ last ∷ []
+parts-end : (text : List ℕ) → parts_of_name (text ++ codes "/Makefile") ≡ parts_of_name text ++ last ∷ []
 parts-end [] = refl
 parts-end (x ∷ text) = split_by x text (codes "/Makefile") (x == slash) refl (parts-end text)
 
@@ -49,9 +50,9 @@ unfolding kept_parts
 kept-end kept [] = refl
 kept-end kept (part ∷ parts) = kept_by parts (λ next. kept-end next parts) (with_part kept part)
 
-pub joined-end : (parts : List (List ℕ)) → joined (parts ++ last ∷ []) ≡ joined parts ++ codes "/Makefile"
-joined-end [] = refl
-joined-end (part ∷ parts) = ap (λ rest. slash ∷ part ++ rest) (joined-end parts) ∙ sym (append_assoc (slash ∷ part) (joined parts) (codes "/Makefile"))
+pub with_slashes-end : (parts : List (List ℕ)) → with_slashes (parts ++ last ∷ []) ≡ with_slashes parts ++ codes "/Makefile"
+with_slashes-end [] = refl
+with_slashes-end (part ∷ parts) = ap (λ rest. slash ∷ part ++ rest) (with_slashes-end parts) ∙ sym (append_assoc (slash ∷ part) (with_slashes parts) (codes "/Makefile"))
 
 drop-front : (text end : List ℕ) → drop (length (text ++ end) - length end) (text ++ end) ≡ end
 drop-front text end = ap (λ n. drop n (text ++ end)) (omega (arith, length-append text end)) ∙ drop-append_seam text end
@@ -59,17 +60,17 @@ drop-front text end = ap (λ n. drop n (text ++ end)) (omega (arith, length-appe
 pub ends-so : (text : List ℕ) → ends_with nat_eq (text ++ codes "/Makefile") (codes "/Makefile") ≡ true
 ends-so text = ap (pointwise nat_eq (codes "/Makefile")) (drop-front text (codes "/Makefile"))
 
-is_name : (fits : Bool) (parts : List (List ℕ)) (name : List ℕ) → ◌≡◌ {A = Result (List ℕ) NameFault} (if fits then Ok (joined (parts ++ last ∷ [])) else Err BadName) (Ok name) → name ≡ joined (parts ++ last ∷ [])
+is_name : (fits : Bool) (parts : List (List ℕ)) (name : List ℕ) → ◌≡◌ {A = Result (List ℕ) NameFault} (if fits then Ok (with_slashes (parts ++ last ∷ [])) else Err BadName) (Ok name) → name ≡ with_slashes (parts ++ last ∷ [])
 is_name true parts name is = cc
 is_name false parts name is = absurd cc
 
-named_so : (parts : Option (List (List ℕ))) (name : List ℕ) → name_of (option_map (λ all. all ++ last ∷ []) parts) ≡ Ok name → is_makefile name ≡ true
+named_so : (parts : Option (List (List ℕ))) (name : List ℕ) → name_of_parts (option_map (λ all. all ++ last ∷ []) parts) ≡ Ok name → is_makefile name ≡ true
 named_so None name is = absurd cc
 named_so (Some parts) name is =
-    ap is_makefile (is_name (nat_le 2 (length (parts ++ last ∷ [])) && nat_le (length (joined (parts ++ last ∷ []))) 255) parts name is ∙ joined-end parts) ∙ ends-so (joined parts)
+    ap is_makefile (is_name (nat_le 2 (length (parts ++ last ∷ [])) && nat_le (length (with_slashes (parts ++ last ∷ []))) 255) parts name is ∙ with_slashes-end parts) ∙ ends-so (with_slashes parts)
 
-resolved_by : (plain : Bool) (text name : List ℕ) → (if plain then name_of (kept_parts [] (parts_of (text ++ codes "/Makefile"))) else Err BadName) ≡ Ok name → is_makefile name ≡ true
-resolved_by true text name is = named_so (kept_parts [] (parts_of text)) name (sym (ap (λ parts. name_of (kept_parts [] parts)) (parts-end text) ∙ ap name_of (kept-end [] (parts_of text))) ∙ is)
+resolved_by : (plain : Bool) (text name : List ℕ) → (if plain then name_of_parts (kept_parts [] (parts_of_name (text ++ codes "/Makefile"))) else Err BadName) ≡ Ok name → is_makefile name ≡ true
+resolved_by true text name is = named_so (kept_parts [] (parts_of_name text)) name (sym (ap (λ parts. name_of_parts (kept_parts [] parts)) (parts-end text) ∙ ap name_of_parts (kept-end [] (parts_of_name text))) ∙ is)
 resolved_by false text name is = absurd cc
 
 resolved-so : (text name : List ℕ) → resolved (text ++ codes "/Makefile") ≡ Ok name → is_makefile name ≡ true

@@ -17,9 +17,9 @@ use Rattle.std.specs.Ordering.{is_eq, nat_cmp}
 use Rattle.port_rules.specs.Ports.{PortValue}
 use Rattle.port_deps.specs.Roots.{RootValue}
 use Rattle.text_parts.specs.Ordered.{among, by_bytes, in_order-sorted}
-use Rattle.ports_index.specs.Depending.{is_port_that, root_at, root_with, roots_among, state_of}
+use Rattle.ports_index.specs.Dependencies.{is_port_that, root_at, root_with, roots_among, root_state}
 use Rattle.std.specs.Str.{bytes_eq}
-use Rattle.ports_index.specs.Filling.{is_one_of}
+use Rattle.ports_index.specs.FilledRows.{is_one_of}
 use Rattle.ports_index.specs.PathOutcomes.{PathOutcome, Port}
 use Rattle.ports_index.specs.Seen.{Said, known_row, known_seen, row_seen}
 use Rattle.ports_index.specs.declared.noted_rows.KnownRow.{KnownRow}
@@ -64,7 +64,7 @@ module _ {X Y : Type 0} (p : Y → Bool) (h : X → Option Y) where
 module _ (test : PortValue → Bool) (listed : List (List ℕ)) where
   -- the root at a path, if it is a port that passes
   abbrev pub port_at : List ℕ → PathOutcome → Option RootValue
-  port_at path outcome = option_filter (is_port_that test) (root_with path (state_of outcome))
+  port_at path outcome = option_filter (is_port_that test) (root_with path (root_state outcome))
 
   abbrev pub chosen_at : Entry → Option RootValue
   chosen_at entry = cond (among (key_of entry) listed) (port_at (key_of entry) (row_seen entry.1.row)) None

@@ -7,10 +7,10 @@ use Rattle.std.specs.Str.{bytes_eq}
 use Rattle.text_parts.specs.Order.{in_order}
 use Rattle.mk_paths.specs.World.{World, files_in}
 use Rattle.ports_index.specs.PathOutcomes.{PathOutcome, outcome_at}
-use Rattle.ports_index.specs.Naming.{directories}
-use Rattle.ports_index.specs.Depending.{items_among, target_of, edge_at, roots_among, edges_among}
+use Rattle.ports_index.specs.TreePaths.{directories}
+use Rattle.ports_index.specs.Dependencies.{items_among, target_of, edge_at, roots_among, edges_among}
 use Rattle.ports_index.specs.Efforts.{lacking}
-use Rattle.ports_index.specs.Filling.{is_one_of}
+use Rattle.ports_index.specs.FilledRows.{is_one_of}
 use Rattle.ports_index.specs.Index.{listed_paths, needed_paths, roots, edges}
 use Rattle.ports_index.specs.RowLaws.{SayAll, KnownRowsAreEnough, OneRowMoreLeavesLess}
 use Rattle.ports_index.specs.Seen.{known_in}

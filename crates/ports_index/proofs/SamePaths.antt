@@ -7,7 +7,7 @@ use Rattle.mk_paths.specs.World.{FileMap, World}
 use Rattle.mk_paths.specs.declared.search_path.Settings.{Settings}
 use Rattle.mk_paths.specs.FilesView.{Question, Presence}
 use Rattle.mk_paths.specs.Place.{candidates, place, up_to_first, places_asked}
-use Rattle.mk_eval.specs.Sharing.{Agrees, Agrees-first, Agrees-rest, IsTheSameWhereAnswered}
+use Rattle.mk_eval.specs.Agreement.{Agrees, Agrees-first, Agrees-rest, IsTheSameWhereAnswered}
 use Rattle.pkg_path.specs.Paths.{PathValue, path_if_one}
 use Rattle.ports_index.specs.PathOutcomes.{Finding, finding_of_evaluation, finding_of, finding_in, finding_named, finding_at, own_directory}
 use Rattle.ports_index.specs.PathQuestions.{questions_after, questions_in, questions_named, questions_at}

@@ -13,8 +13,8 @@ use Rattle.std.specs.Str.{bytes_eq}
 use Rattle.std.specs.declared.cmp.Ordering.TheVariants.{Less, Equal, Greater}
 use Rattle.general_facts.specs.Lists.{list_any-map}
 use Rattle.text_parts.specs.Ordered.{by_bytes, in_order-sorted}
-use Rattle.ports_index.specs.Filling.{is_one_of}
-use Rattle.ports_index.specs.Naming.{AreInOrder}
+use Rattle.ports_index.specs.FilledRows.{is_one_of}
+use Rattle.ports_index.specs.TreePaths.{AreInOrder}
 
 -- a path at a place among these is one of them
 pub one_of-place : (paths : List (String Global)) (place : ℕ) (one : String Global) (path : List ℕ) → place < length paths → one ≡ get_or paths place one → bytes_eq (string_bytes one) path ≡ true

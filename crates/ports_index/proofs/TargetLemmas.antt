@@ -7,8 +7,8 @@ use Rattle.std.specs.Str.{bytes_eq}
 use Rattle.text_parts.specs.Ordered.{among-in_order}
 use Rattle.port_rules.specs.Depends.{DependValue}
 use Rattle.port_deps.specs.Items.{item_of}
-use Rattle.ports_index.specs.Depending.{item_at, items_in, items_among, target_of, target_by, targets_in}
-use Rattle.ports_index.specs.Filling.{is_one_of}
+use Rattle.ports_index.specs.Dependencies.{item_at, items_in, items_among, target_of, target_by, targets_in}
+use Rattle.ports_index.specs.FilledRows.{is_one_of}
 use Rattle.ports_index.specs.RowLaws.{NeededAreNamed}
 use Rattle.ports_index.specs.PathOutcomes.{PathOutcome, Absent, Faulty, Port, BadPort, Lists, BadList, FlavoredList, Other}
 

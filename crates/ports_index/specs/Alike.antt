@@ -1,17 +1,17 @@
 -- Rows that name the same paths.
 use Rattle.std.specs.Prelude.{◌≡◌, ℕ, true, List, [], map}
 use Rattle.port_rules.specs.Depends.{DependValue}
-use Rattle.ports_index.specs.declared.evaluating.Row.{Row}
+use Rattle.ports_index.specs.declared.path_outcomes.Row.{Row}
 use Rattle.ports_index.specs.PathOutcomes.{PathOutcome}
 use Rattle.ports_index.specs.Seen.{row_seen}
-use Rattle.ports_index.specs.Naming.{listed_from, named_in}
-use Rattle.ports_index.specs.Depending.{targets_in}
-use Rattle.ports_index.specs.Filling.{is_one_of}
+use Rattle.ports_index.specs.TreePaths.{listed_from, named_in}
+use Rattle.ports_index.specs.Dependencies.{targets_in}
+use Rattle.ports_index.specs.FilledRows.{is_one_of}
 use Rattle.ports_index.specs.Index.{needed_among}
 
 -- the items of dependencies
-abbrev pub items_of : List DependValue → List (List ℕ)
-items_of depends = map (λ (depend : DependValue). depend.item) depends
+abbrev pub dependency_items : List DependValue → List (List ℕ)
+dependency_items depends = map (λ (depend : DependValue). depend.item) depends
 
 -- At this path, two rows name the same paths, as a list of directories and as a port.
 pub record NameAlike (path : List ℕ) (old new : PathOutcome) : Type 0 where

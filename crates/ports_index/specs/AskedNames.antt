@@ -6,7 +6,7 @@ use Rattle.std.specs.BTreeSet.{BTreeSet, contains_text}
 use Rattle.std.specs.Global.{Global}
 use Rattle.std.specs.List.{list_any}
 use Rattle.std.specs.Str.{bytes_eq}
-use Rattle.ports_index.specs.Filling.{is_one_of}
+use Rattle.ports_index.specs.FilledRows.{is_one_of}
 use Rattle.ports_index.specs.declared.asked_names.AskedNames.{AskedNames}
 use Rattle.ports_index.specs.declared.noted_rows.KnownRow.{KnownRow}
 
@@ -67,8 +67,8 @@ asks_in None name = false
 asks_in (Some known) name = list_any (λ one. bytes_eq (string_bytes one) name) known.names.items
 
 -- each path whose row asked for a name is noted with it
-abbrev pub AreNoted : BTreeMap (String Global) KnownRow → AskedNames → Type 0
-AreNoted rows asked = (name path : List ℕ) → asks_in (get_by_text rows path) name ≡ true → is_noted asked name path ≡ true
+abbrev pub AreNotedAskers : BTreeMap (String Global) KnownRow → AskedNames → Type 0
+AreNotedAskers rows asked = (name path : List ℕ) → asks_in (get_by_text rows path) name ≡ true → is_noted asked name path ≡ true
 
 -- whether a row, if there is one, asked for a file whose name passes this test
 abbrev pub asks_one_of : (List ℕ → Bool) → Option KnownRow → Bool

@@ -1,8 +1,8 @@
 -- Paths with flavors.
 use Rattle.std.specs.Prelude.{ℕ, if◌then◌else◌, List, Option, None, Some, option_and_then}
-use Rattle.port_deps.specs.Reading.{has_comma}
+use Rattle.port_deps.specs.ItemText.{has_comma}
 use Rattle.port_rules.specs.Depends.{DependValue}
-use Rattle.ports_index.specs.Depending.{target_by}
+use Rattle.ports_index.specs.Dependencies.{target_by}
 
 -- a path, if it has a comma
 abbrev pub some_flavored : List ℕ → Option (List ℕ)

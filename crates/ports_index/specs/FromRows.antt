@@ -8,14 +8,14 @@ use Rattle.std.specs.List.{filter_map, flat_map}
 use Rattle.port_rules.specs.Ports.{PortValue}
 use Rattle.port_deps.specs.Roots.{RootValue, RootEdgeValue}
 use Rattle.ports_index.specs.PathOutcomes.{PathOutcome}
-use Rattle.ports_index.specs.Filling.{is_one_of}
-use Rattle.ports_index.specs.Finding.{FindsPaths}
-use Rattle.ports_index.specs.Naming.{AreInOrder, listed_from, named_at, named_in, path_of_word}
-use Rattle.ports_index.specs.Depending.{RootItemValue, TestsPorts, is_port_that, root_with, state_of, roots_among, root_among}
-use Rattle.ports_index.specs.Depending.{items_among, edge_at, edges_among, edges_from}
+use Rattle.ports_index.specs.FilledRows.{is_one_of}
+use Rattle.ports_index.specs.Finders.{FindsPaths}
+use Rattle.ports_index.specs.TreePaths.{AreInOrder, listed_from, named_at, named_in, path_of_word}
+use Rattle.ports_index.specs.Dependencies.{RootItemValue, TestsPorts, is_port_that, root_with, root_state, roots_among, root_among}
+use Rattle.ports_index.specs.Dependencies.{items_among, edge_at, edges_among, edges_from}
 use Rattle.ports_index.specs.Seen.{GivesTexts, AddsTexts, item_seen, outcomes_in}
-use Rattle.ports_index.specs.declared.depending.RootItem.{RootItem}
-use Rattle.ports_index.specs.declared.keeping.MemoryRows.{MemoryRows}
+use Rattle.ports_index.specs.declared.dependencies.RootItem.{RootItem}
+use Rattle.ports_index.specs.declared.memory_rows.MemoryRows.{MemoryRows}
 use Rattle.ports_index.specs.declared.path_finder.PathFinder.{PathFinder}
 
 -- ---- the paths that are listed
@@ -49,7 +49,7 @@ IsRootAmong path paths rows root =
 
 -- the root follows that is at a path, by what the path leads to
 abbrev pub AddsRoot : List ℕ → PathOutcome → Vec RootValue Global → Vec RootValue Global → Type 0
-AddsRoot path outcome old new = new.items ≡ old.items ++ option_to_list (root_with path (state_of outcome))
+AddsRoot path outcome old new = new.items ≡ old.items ++ option_to_list (root_with path (root_state outcome))
 
 -- if the paths are in order, these are the ports at them that pass the test that a closure makes
 abbrev pub FindsPortsThat : {F E : Type 0}

@@ -5,8 +5,8 @@ use Rattle.text_parts.specs.Order.{in_order}
 use Rattle.mk_paths.specs.World.{World, files_in}
 use Rattle.port_deps.specs.Roots.{RootValue, RootEdgeValue}
 use Rattle.ports_index.specs.PathOutcomes.{PathOutcome, outcome_at}
-use Rattle.ports_index.specs.Naming.{directories, listed_from}
-use Rattle.ports_index.specs.Depending.{roots_among, root_among, edges_among, edges_from, items_among, target_of}
+use Rattle.ports_index.specs.TreePaths.{directories, listed_from}
+use Rattle.ports_index.specs.Dependencies.{roots_among, root_among, edges_among, edges_from, items_among, target_of}
 
 -- the paths at which roots may be: directories, and what lists of directories name
 abbrev pub listed_paths : World → List (List ℕ)

@@ -6,8 +6,8 @@ use Rattle.std.specs.Global.{Global}
 use Rattle.mk_paths.specs.World.{World, files_in}
 use Rattle.port_rules.specs.Ports.{PortValue}
 use Rattle.port_deps.specs.Roots.{RootValue}
-use Rattle.ports_index.specs.Naming.{directories}
-use Rattle.ports_index.specs.Depending.{TestsPorts, is_port_that}
+use Rattle.ports_index.specs.TreePaths.{directories}
+use Rattle.ports_index.specs.Dependencies.{TestsPorts, is_port_that}
 use Rattle.ports_index.specs.Index.{edges, listed_paths, needed_paths, root_of, roots}
 use Rattle.ports_index.specs.RowLaws.{SayAll}
 use Rattle.ports_index.specs.Seen.{entries_in}

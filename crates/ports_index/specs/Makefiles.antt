@@ -6,10 +6,10 @@ use Rattle.std.specs.FinMap.{contains_key}
 use Rattle.std.specs.List.{ends_with}
 use Rattle.mk_paths.specs.World.{FileMap, World, files_in}
 use Rattle.mk_paths.specs.declared.search_path.Settings.{Settings}
-use Rattle.port_deps.specs.Reading.{has_comma}
+use Rattle.port_deps.specs.ItemText.{has_comma}
 use Rattle.ports_index.specs.Efforts.{has_makefile}
-use Rattle.ports_index.specs.Filling.{is_one_of}
-use Rattle.ports_index.specs.Naming.{directories}
+use Rattle.ports_index.specs.FilledRows.{is_one_of}
+use Rattle.ports_index.specs.TreePaths.{directories}
 
 -- a name ends as that of a directory's makefile does
 abbrev pub is_makefile : List ℕ → Bool

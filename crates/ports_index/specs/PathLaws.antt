@@ -2,7 +2,7 @@
 use Rattle.std.specs.Prelude.{◌≡◌, ℕ, ◌≤◌, List, length}
 use Rattle.mk_paths.specs.World.{FileMap, World}
 use Rattle.mk_paths.specs.declared.search_path.Settings.{Settings}
-use Rattle.mk_eval.specs.Sharing.{Agrees}
+use Rattle.mk_eval.specs.Agreement.{Agrees}
 use Rattle.ports_index.specs.PathOutcomes.{finding_at}
 use Rattle.ports_index.specs.PathQuestions.{questions_at}
 use Rattle.ports_index.specs.Index.{listed_paths, needed_paths}

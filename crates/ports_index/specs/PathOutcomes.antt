@@ -5,7 +5,7 @@ use Rattle.mk_base.specs.FaultAt.{FaultAt}
 use Rattle.mk_text.specs.Words.{words_of}
 use Rattle.mk_paths.specs.World.{World}
 use Rattle.mk_paths.specs.Place.{place}
-use Rattle.mk_eval.specs.Meaning.{means, value_of}
+use Rattle.mk_eval.specs.Meaning.{means, value_of_variable}
 use Rattle.mk_eval.specs.Expanded.{Expanded, value_cost}
 use Rattle.mk_eval.specs.declared.outcome.Evaluated.{Evaluated}
 use Rattle.mk_eval.specs.declared.outcome.Failed.{Failed}
@@ -14,7 +14,7 @@ use Rattle.mk_eval.specs.declared.outcome.Kind.TheVariants as kinds
 use Rattle.pkg_path.specs.Paths.{PathValue, path_if_one}
 use Rattle.port_rules.specs.Ports.{PortValue}
 use Rattle.port_rules.specs.Records.{record_of}
-use Rattle.port_rules.specs.declared.recording.Recorded.{Recorded}
+use Rattle.port_rules.specs.declared.records.Recorded.{Recorded}
 
 -- What a path leads to, by the makefile that it names. `Absent`: there is no such makefile. `Faulty`: its
 -- evaluation has this fault. `Port`: it describes this port. `BadPort`: it describes a port, whose record
@@ -51,19 +51,19 @@ port_finding spent (Ok recorded) = record { outcome = Port recorded.port; cost =
 port_finding spent (Err failed) = record { outcome = BadPort failed.fault; cost = with_cost spent failed.cost }
 
 -- the words of a value; one that isn't there has none
-abbrev pub words_in : Option Expanded → List (List ℕ)
-words_in (Some value) = words_of value.text
-words_in None = []
+abbrev pub words_if_there : Option Expanded → List (List ℕ)
+words_if_there (Some value) = words_of value.text
+words_if_there None = []
 
 -- a list of directories by its SUBDIR, after an evaluation of this cost
 abbrev pub list_finding : ℕ → Result (Option Expanded) Failed → Finding
-list_finding spent (Ok value) = record { outcome = Lists (words_in value); cost = with_cost spent (value_cost value) }
+list_finding spent (Ok value) = record { outcome = Lists (words_if_there value); cost = with_cost spent (value_cost value) }
 list_finding spent (Err failed) = record { outcome = BadList failed.fault; cost = with_cost spent failed.cost }
 
 -- a list of directories is asked for its SUBDIR if it was evaluated without flavors
 abbrev pub list_after : List ℕ → Option (List (List ℕ)) → Evaluated → Finding
 list_after makefile (Some flavors) evaluated = record { outcome = FlavoredList; cost = evaluated.cost }
-list_after makefile None evaluated = list_finding evaluated.cost (value_of evaluated.env makefile (codes "SUBDIR"))
+list_after makefile None evaluated = list_finding evaluated.cost (value_of_variable evaluated.env makefile (codes "SUBDIR"))
 
 -- what a makefile of this kind describes
 abbrev pub finding_by : List ℕ → Option (List (List ℕ)) → Evaluated → Kind → Finding

@@ -4,7 +4,7 @@ use Rattle.std.specs.Str.{bytes_eq}
 use Rattle.mk_paths.specs.World.{World, files_in, search_path_of}
 use Rattle.mk_paths.specs.FilesView.{Question}
 use Rattle.mk_paths.specs.Place.{place, places_asked}
-use Rattle.mk_eval.specs.Sharing.{questions_of}
+use Rattle.mk_eval.specs.Agreement.{questions_of}
 use Rattle.pkg_path.specs.Paths.{PathValue, path_if_one}
 use Rattle.ports_index.specs.PathOutcomes.{own_directory}
 

@@ -3,10 +3,10 @@ use Rattle.std.specs.Prelude.{◌≡◌, ℕ, ◌+◌, ◌||◌, Bool, true, Lis
 use Rattle.std.specs.List.{list_any}
 use Rattle.mk_paths.specs.World.{World, files_in}
 use Rattle.ports_index.specs.PathOutcomes.{PathOutcome, outcome_at}
-use Rattle.ports_index.specs.Naming.{directories, listed_from}
-use Rattle.ports_index.specs.Depending.{roots_among, edges_among, targets_in}
+use Rattle.ports_index.specs.TreePaths.{directories, listed_from}
+use Rattle.ports_index.specs.Dependencies.{roots_among, edges_among, targets_in}
 use Rattle.ports_index.specs.Index.{listed_paths, needed_among, needed_paths, roots, edges}
-use Rattle.ports_index.specs.Filling.{is_one_of, Fills}
+use Rattle.ports_index.specs.FilledRows.{is_one_of, Fills}
 use Rattle.ports_index.specs.Efforts.{lacking}
 use Rattle.ports_index.specs.Seen.{known_in}
 

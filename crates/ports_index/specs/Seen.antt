@@ -7,21 +7,21 @@ use Rattle.std.specs.Global.{Global}
 use Rattle.std.specs.Str.{bytes_eq}
 use Rattle.std.specs.BTreeSet.{BTreeSet, contains_text}
 use Rattle.std.specs.BTreeMap.{get_by_text}
-use Rattle.mk_eval.specs.Meaning.{value_of}
+use Rattle.mk_eval.specs.Meaning.{value_of_variable}
 use Rattle.mk_eval.specs.Views.{flavors_in}
 use Rattle.mk_eval.specs.declared.outcome.Evaluated.{Evaluated}
 use Rattle.mk_eval.specs.declared.outcome.Failed.{Failed}
 use Rattle.port_rules.specs.Records.{record_of}
 use Rattle.ports_index.specs.PathOutcomes.{PathOutcome}
-use Rattle.ports_index.specs.Filling.{is_one_of}
+use Rattle.ports_index.specs.FilledRows.{is_one_of}
 use Rattle.ports_index.specs.PathOutcomes as seen
-use Rattle.ports_index.specs.Depending.{RootItemValue}
-use Rattle.ports_index.specs.declared.evaluating.Row.{Row}
-use Rattle.ports_index.specs.declared.evaluating.Row.TheVariants.{Absent, Faulty, Port, BadPort, Lists, BadList, FlavoredList, Other}
-use Rattle.ports_index.specs.declared.evaluating.Finding.{Finding}
+use Rattle.ports_index.specs.Dependencies.{RootItemValue}
+use Rattle.ports_index.specs.declared.path_outcomes.Row.{Row}
+use Rattle.ports_index.specs.declared.path_outcomes.Row.TheVariants.{Absent, Faulty, Port, BadPort, Lists, BadList, FlavoredList, Other}
+use Rattle.ports_index.specs.declared.path_outcomes.Finding.{Finding}
 use Rattle.ports_index.specs.declared.noted_rows.KnownRow.{KnownRow}
-use Rattle.ports_index.specs.declared.keeping.MemoryRows.{MemoryRows}
-use Rattle.ports_index.specs.declared.depending.RootItem.{RootItem}
+use Rattle.ports_index.specs.declared.memory_rows.MemoryRows.{MemoryRows}
+use Rattle.ports_index.specs.declared.dependencies.RootItem.{RootItem}
 
 -- a row
 abbrev pub row_seen : Row → PathOutcome
@@ -60,8 +60,8 @@ abbrev pub entries_in : MemoryRows → List ℕ → Option PathOutcome
 entries_in rows path = option_map (λ (said : Said). said.outcome) (said_in rows path)
 
 -- the names of the files that were asked for to learn that
-abbrev pub names_in : MemoryRows → List ℕ → Option (List (List ℕ))
-names_in rows path = option_map (λ (said : Said). said.names) (said_in rows path)
+abbrev pub names_said_in : MemoryRows → List ℕ → Option (List (List ℕ))
+names_said_in rows path = option_map (λ (said : Said). said.names) (said_in rows path)
 
 -- whether one of these names passes a test
 abbrev pub has_asked_for : (List ℕ → Bool) → Option (List (List ℕ)) → Bool
@@ -138,7 +138,7 @@ SaysSame old new = (other : List ℕ) → said_in new other ≡ said_in old othe
 -- these, in any order, are the paths whose rows asked for a file of one of these names
 abbrev pub HaveAsked : BTreeSet (String Global) → MemoryRows → Vec (String Global) Global → Type 0
 HaveAsked names rows paths =
-    (path : List ℕ) → is_one_of path (map string_bytes paths.items) ≡ has_asked_for (contains_text names) (names_in rows path)
+    (path : List ℕ) → is_one_of path (map string_bytes paths.items) ≡ has_asked_for (contains_text names) (names_said_in rows path)
 
 -- ---- what a makefile describes
 
@@ -159,4 +159,4 @@ IsPortFinding evaluated makefile found =
 -- it is the list of directories of a makefile that was evaluated
 abbrev pub IsListFinding : Evaluated → List ℕ → Finding → Type 0
 IsListFinding evaluated makefile found =
-    finding_seen found ≡ seen.list_finding evaluated.cost (value_of evaluated.env makefile (codes "SUBDIR"))
+    finding_seen found ≡ seen.list_finding evaluated.cost (value_of_variable evaluated.env makefile (codes "SUBDIR"))

@@ -1,9 +1,9 @@
 //! Rows that name the same paths.
 ghost use Rattle.std.specs.Prelude.{◌≡◌, ℕ, List, true, map, string_bytes};
-ghost use Rattle.ports_index.specs.Alike.{NameTheSame, NamesNone, items_of};
+ghost use Rattle.ports_index.specs.Alike.{NameTheSame, NamesNone, dependency_items};
 ghost use Rattle.ports_index.specs.Seen.{row_seen};
 
-use crate::evaluating::Row;
+use crate::path_outcomes::Row;
 use port_rules::Depend;
 
 /// Whether two rows of one path have the same items, if they are ports, or the same words, if they list directories.
@@ -33,7 +33,7 @@ fn names_none(row: &Row) -> bool
 
 // Whether dependencies have the same items, in the same order.
 fn have_same_items(old: &[Depend], new: &[Depend]) -> bool
-    ensures { result ≡ true → items_of new.now ≡ items_of old.now }
+    ensures { result ≡ true → dependency_items new.now ≡ dependency_items old.now }
 {
     if old.len() != new.len() {
         return false;

@@ -1,15 +1,15 @@
 //! Paths with flavors that items name.
 ghost use Rattle.std.specs.Prelude.{◌≡◌, filter, string_bytes, IfOk, option_map};
 ghost use Rattle.std.specs.List.{filter_map};
-ghost use Rattle.port_deps.specs.Reading.{has_comma};
-ghost use Rattle.ports_index.specs.Depending as depending;
-ghost use Rattle.ports_index.specs.Depending.{targets_in};
+ghost use Rattle.port_deps.specs.ItemText.{has_comma};
+ghost use Rattle.ports_index.specs.Dependencies as the_dependencies;
+ghost use Rattle.ports_index.specs.Dependencies.{targets_in};
 ghost use Rattle.ports_index.specs.Flavored as flavored;
 ghost use Rattle.ports_index.specs.Seen.{GivesPath, GivesTexts, row_says};
 
-use crate::depending::target_of;
-use crate::evaluating::Row;
-use crate::naming::add_found;
+use crate::dependencies::target_of;
+use crate::path_outcomes::Row;
+use crate::tree_paths::add_found;
 use port_deps::{has_comma, read_wanted};
 use port_rules::Depend;
 use std::alloc::{AllocError, Global};
@@ -29,7 +29,7 @@ pub fn flavored_targets(alloc: Global, row: Option<&Row>) -> Result<Vec<String>,
 
 // What the port in this row depends on. Without a row, or if the row is no port, that is nothing.
 fn depends_of(row: Option<&Row>) -> &[Depend]
-    ensures { filter_map depending.target_by result.now ≡ targets_in (row_says row.entry) }
+    ensures { filter_map the_dependencies.target_by result.now ≡ targets_in (row_says row.entry) }
 {
     match row {
         Some(Row::Port(port)) => port.depends(),
@@ -49,7 +49,7 @@ fn flavored_target(alloc: Global, depend: &Depend) -> Result<Option<String>, All
 
 // The path that the item of a dependency names, without a subpackage, if the item can be read.
 fn target_by(alloc: Global, depend: &Depend) -> Result<Option<String>, AllocError>
-    ensures { IfOk result (GivesPath (depending.target_by depend.now)) }
+    ensures { IfOk result (GivesPath (the_dependencies.target_by depend.now)) }
 {
     let wanted = read_wanted(alloc, depend.item())?;
     target_of(alloc, wanted.as_ref())

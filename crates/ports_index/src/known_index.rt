@@ -4,9 +4,9 @@ ghost use Rattle.mk_paths.specs.World.{World};
 ghost use Rattle.ports_index.specs.Index as indexed;
 ghost use Rattle.ports_index.specs.Known.{GivesAll, GivesPortsThat, IsIndexOf, IsRootAt, IsSameIndex};
 
-use crate::depending::{edges_among, edges_from, ports_among, root_among, roots_among};
-use crate::keeping::MemoryRows;
+use crate::dependencies::{edges_among, edges_from, ports_among, root_among, roots_among};
 use crate::laws::known_rows_are_enough;
+use crate::memory_rows::MemoryRows;
 use port_deps::{Root, RootEdge};
 use port_rules::PortRecord;
 use std::alloc::{AllocError, Global};

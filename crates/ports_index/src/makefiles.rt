@@ -1,7 +1,7 @@
 //! Makefiles that may have changed.
 ghost use Rattle.std.specs.Prelude.{◌≡◌, IfOk};
 ghost use Rattle.std.specs.Result.{result_err};
-ghost use Rattle.ports_index.specs.Keeping.{Keeps};
+ghost use Rattle.ports_index.specs.KeptFiles.{KeepsFiles};
 ghost use Rattle.ports_index.specs.Makefiles as makefiles;
 ghost use Rattle.ports_index.specs.Makefiles.{SaysAreThere, SaysIsThere, SaysMakefileIsThere};
 
@@ -23,7 +23,7 @@ pub fn makefiles_are_there<F: Names>(
     names: &BTreeSet<String>,
 ) -> Result<bool, FilesFault>
     ensures there { IfOk result (SaysAreThere names.now (F.view files.old).files) }
-    ensures keeps { Keeps (result_err result) (F.view files.old) (F.view files.new) }
+    ensures keeps { KeepsFiles (result_err result) (F.view files.old) (F.view files.new) }
 {
     for name in names {
         if !is_there_if_makefile(alloc, files, name.as_str())? {
@@ -40,7 +40,7 @@ fn is_there_if_makefile<F: Names>(
     name: &str,
 ) -> Result<bool, FilesFault>
     ensures there { IfOk result (SaysMakefileIsThere name.now (F.view files.old).files) }
-    ensures keeps { Keeps (result_err result) (F.view files.old) (F.view files.new) }
+    ensures keeps { KeepsFiles (result_err result) (F.view files.old) (F.view files.new) }
 {
     if !is_makefile(name) {
         return Ok(true);
@@ -51,7 +51,7 @@ fn is_there_if_makefile<F: Names>(
 // Whether a text is the name of a file that is there.
 fn is_there<F: Names>(alloc: Global, files: &mut F, text: &str) -> Result<bool, FilesFault>
     ensures there { IfOk result (SaysIsThere text.now (F.view files.old).files) }
-    ensures keeps { Keeps (result_err result) (F.view files.old) (F.view files.new) }
+    ensures keeps { KeepsFiles (result_err result) (F.view files.old) (F.view files.new) }
 {
     match Name::read(alloc, text) {
         Ok(name) if name.as_str() == text => files.has(&name),

@@ -5,11 +5,11 @@ ghost use Rattle.std.specs.BTreeSet.{contains_text};
 ghost use Rattle.std.specs.List.{list_any};
 ghost use Rattle.std.specs.Option.{option_copied};
 ghost use Rattle.std.specs.Str.{bytes_eq};
-ghost use Rattle.ports_index.specs.AskedNames.{AreNoted, asks_in, NotesRow, KeepsNoted, TakesRowOut};
+ghost use Rattle.ports_index.specs.AskedNames.{AreNotedAskers, asks_in, NotesRow, KeepsNoted, TakesRowOut};
 ghost use Rattle.ports_index.specs.AskedNames.{AreAsking, AddsAskers, AddsAskersOf};
 
 use crate::asked_names::AskedNames;
-use crate::evaluating::Row;
+use crate::path_outcomes::Row;
 use std::alloc::{AllocError, Global};
 use std::collections::{BTreeMap, BTreeSet};
 use text_parts::put_in_order;
@@ -30,7 +30,7 @@ pub struct KnownRow {
 pub(crate) struct NotedRows {
     pub(crate) rows: BTreeMap<String, KnownRow>,
     asked: AskedNames,
-    ghost noted: { AreNoted rows asked },
+    ghost noted: { AreNotedAskers rows asked },
 }
 
 impl NotedRows {

@@ -1,8 +1,8 @@
 //! Paths that are searched for one after another.
 ghost use Rattle.std.specs.Prelude.{map, string_bytes};
-ghost use Rattle.ports_index.specs.Finding.{FindsPaths, KeepsFinding, TellsIfFound};
+ghost use Rattle.ports_index.specs.Finders.{FindsPaths, KeepsFinding, TellsIfFound};
 
-use crate::naming::is_found_in;
+use crate::tree_paths::is_found_in;
 
 /// Finds paths among these, which are in the order of their bytes. If paths are asked for in that order, all take one pass;
 /// any other path is searched.

@@ -4,8 +4,9 @@ use Rattle.std.specs.Str.{is_utf8, IsUtf8}
 use Rattle.std.proofs.lemmas.Str.{is_utf8-from_IsUtf8}
 use Rattle.general_facts.specs.Texts.{is_utf8-not}
 use Rattle.mk_paths.specs.SearchPath.{search_path}
-use Rattle.ports_plain.specs.Trimming.{trimmed}
-use Rattle.ports_plain.specs.Plain.{set_path, set_text, set_trees, reply_alone}
+use Rattle.ports_plain.specs.Spaces.{trimmed}
+use Rattle.ports_plain.specs.SettingAnswers.{set_path, set_text, set_trees}
+use Rattle.ports_plain.specs.Requests.{reply_alone}
 use Rattle.ports_plain.specs.Replies.{bad_path}
 
 by_test : (body text : List ℕ) (b : Bool) → text ≡ trimmed body → is_utf8 text ≡ b

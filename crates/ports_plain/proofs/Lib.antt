@@ -1,7 +1,6 @@
 mod BodyLemmas
 mod LiteralRoutes
 pub mod NeverFails
-mod QuestionLemmas
 mod RouteTable
 mod TargetLemmas
 mod TrimmingLemmas

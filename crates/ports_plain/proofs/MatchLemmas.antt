@@ -2,13 +2,13 @@
 use Rattle.std.proofs.Common.{◌≡◌, ◌∙◌, ap, sym, refl, ℕ, Bool, true, false, cond, ◌||◌, List, [], ◌∷◌, ◌++◌, filter, map, Result, Ok, Err}
 use Rattle.std.proofs.lemmas.Bool.{false≢true}
 use Rattle.std.specs.List.{list_any}
-use Rattle.pkg_spec.specs.Admitting.{admitted_by}
+use Rattle.pkg_spec.specs.NameSet.{admitted_by}
 use Rattle.mk_base.specs.FaultAt.{FaultAt}
 use Rattle.port_rules.specs.Packages.{PackageValue}
 use Rattle.port_rules.specs.Ports.{PortValue}
 use Rattle.port_deps.specs.Roots.{RootValue}
-use Rattle.ports_index.specs.Depending.{is_port_that, passes_state}
-use Rattle.ports_query.specs.Listing.{ListedValue, admits, admits_one, admitted_of, listed_at, listed_of}
+use Rattle.ports_index.specs.Dependencies.{is_port_that, passes_state}
+use Rattle.ports_query.specs.ListedPackages.{ListedValue, spec_test, admits_one, admitted_of, listed_at, packages_passing}
 
 none_by : {X : Type 0} (p : X → Bool) (x : X) (xs : List X) (is : Bool) → p x ≡ is → (is || list_any p xs) ≡ false
     → (list_any p xs ≡ false → filter p xs ≡ []) → cond is (x ∷ filter p xs) (filter p xs) ≡ []
@@ -25,12 +25,12 @@ module _ (spec : List ℕ) where
   taken = is_port_that (admits_one spec)
 
   abbrev listed : RootValue → List ListedValue
-  listed root = listed_of (admits spec) root.path root.state
+  listed root = packages_passing (spec_test spec) root.path root.state
 
   lists_none : (root : RootValue) → taken root ≡ false → listed root ≡ []
   lists_none root e = by root.state e
     where
-      by : (state : Result PortValue FaultAt) → passes_state (admits_one spec) state ≡ false → listed_of (admits spec) root.path state ≡ []
+      by : (state : Result PortValue FaultAt) → passes_state (admits_one spec) state ≡ false → packages_passing (spec_test spec) root.path state ≡ []
       by (Ok port) none_is = ap (map (listed_at root.path)) (none (λ (found : PackageValue). admitted_by spec found.name) port.packages none_is)
       by (Err fault) none_is = refl
 

@@ -21,25 +21,27 @@ use Rattle.std.specs.Result.{result_ok}
 use Rattle.std.specs.Str.{bytes_eq}
 use Rattle.text_parts.specs.Order.{in_order}
 use Rattle.text_parts.specs.Ordered.{by_bytes, in_order-sorted}
-use Rattle.mk_paths.specs.FileName.{slash, parts_of}
+use Rattle.general_facts.specs.Ascii.{slash}
+use Rattle.mk_paths.specs.FileName.{parts_of_name}
 use Rattle.mk_paths.specs.Place.{place}
 use Rattle.mk_paths.specs.SearchPath.{IsSearchPath, is_tree}
 use Rattle.mk_paths.specs.World.{World, files_in, search_path_of}
-use Rattle.pkg_path.specs.Paths.{is_bare, is_bare_path, PathValue, path_of, path_if_one, canonical, without_subpackage, port_path, elements_of, directory_of, choices_of, choices_text, flavor_choices, flavors_of, is_flavor, is_subpackage, comma}
+use Rattle.pkg_path.specs.Paths.{is_bare_directory, is_bare_path, PathValue, path_of, path_if_one, canonical, without_subpackage, port_path, elements_of, directory_element, choices_of, choices_text, flavor_choices, flavors_of, is_flavor, is_subpackage}
+use Rattle.general_facts.specs.Ascii.{comma}
 use Rattle.pkg_path.proofs.Rereading.{path_of-IsPath, without-IsPath}
 use Rattle.port_rules.specs.Depends.{DependValue}
-use Rattle.port_deps.specs.Reading.{WantedValue, PartsValue, wanted_of, wanted_in, wanted_at, wanted_by, spec_if_one, spec_text, at_sign, named_parts}
-use Rattle.port_deps.specs.Reading as reading
-use Rattle.ports_index.specs.Depending.{target_by, targets_in, target_of, items_among}
+use Rattle.port_deps.specs.ItemText.{WantedValue, PartsValue, wanted_of, wanted_in, wanted_at, wanted_by, spec_if_one, spec_text, at_sign, named_parts}
+use Rattle.port_deps.specs.ItemText as item_text
+use Rattle.ports_index.specs.Dependencies.{target_by, targets_in, target_of, items_among}
 use Rattle.ports_index.specs.Index.{needed_paths, listed_paths}
-use Rattle.ports_index.specs.Naming as naming
-use Rattle.ports_index.specs.Naming.{if_directory, directories, makefile_directory, path_of_word, named_at, path_below, named_in as named_in_list}
+use Rattle.ports_index.specs.TreePaths as tree_paths
+use Rattle.ports_index.specs.TreePaths.{if_directory, directories, makefile_directory, path_of_word, named_at, path_below, named_in as named_in_list}
 use Rattle.ports_index.specs.Pairs.{Pair, pair_in, pair_named, pair_at, pairs_at}
 use Rattle.ports_index.specs.PathOutcomes.{PathOutcome, Absent, Faulty, Port, BadPort, Lists, BadList, FlavoredList, Other, outcome_at, own_directory}
 use Rattle.ports_index.proofs.PathReading.{has_directory, ok_if, read_as}
 use Rattle.ports_index.proofs.TargetLemmas.{targets-among}
 use Rattle.ports_plain.specs.Questions.{question_of}
-use Rattle.ports_plain.specs.Resting.{rests_for, RestsOnEachOnce}
+use Rattle.ports_plain.specs.AnswerCosts.{rests_for, RestsOnEachOnce}
 use Rattle.ports_plain.specs.declared.questions.Question.{Question}
 use Rattle.ports_plain.specs.declared.questions.Question.TheVariants.{Settled, OfFile, OfPort, OfIndex}
 use Rattle.ports_index.proofs.MakefileNames.{IsNamedBy, one_stem, named_in, named_own, in_tree}
@@ -138,12 +140,12 @@ no_choices (choice ∷ choices) a b = by (is_subpackage choice) refl
     by false is =
         absurd (false≢true (ap (λ sub. is_none (cond (not sub || list_any (λ choice. not (is_subpackage choice)) choices) (Some (in_order (filter is_flavor (choice ∷ choices)))) None)) (sym is) ∙ a))
 
-one_element : (elements : List (List ℕ)) → 0 < length elements → choices_of elements ≡ [] → join_with_byte 44 elements ≡ directory_of elements
+one_element : (elements : List (List ℕ)) → 0 < length elements → choices_of elements ≡ [] → join_with_byte 44 elements ≡ directory_element elements
 one_element [] some none = absurd (omega (arith, some))
 one_element (directory ∷ []) some none = refl
 one_element (directory ∷ choice ∷ choices) some none = absurd cc
 
-bare_text : (text : List ℕ) → is_bare text ≡ true → IsBarePath text
+bare_text : (text : List ℕ) → is_bare_directory text ≡ true → IsBarePath text
 unfolding canonical
 bare_text text e = by (path_if_one text) refl e
   where
@@ -178,21 +180,21 @@ then_some f None y e = absurd cc
 then_some f (Some x) y e = (x, refl, e)
 
 -- a directory that may be listed
-listed_directory : (name path : List ℕ) → naming.directory_of name ≡ Some path → MayBeNeeded path
-unfolding naming.directory_of
+listed_directory : (name path : List ℕ) → tree_paths.listable_directory name ≡ Some path → MayBeNeeded path
+unfolding tree_paths.listable_directory
 listed_directory name path e =
     let t = then_some if_directory (makefile_directory name) path e in
-    by (bytes_eq t.0 own_directory) (is_bare t.0) t.0 refl refl t.2
+    by (bytes_eq t.0 own_directory) (is_bare_directory t.0) t.0 refl refl t.2
   where
-    by : (own bare : Bool) (directory : List ℕ) → bytes_eq directory own_directory ≡ own → is_bare directory ≡ bare
+    by : (own bare : Bool) (directory : List ℕ) → bytes_eq directory own_directory ≡ own → is_bare_directory directory ≡ bare
         → cond (own || bare) (Some directory) None ≡ Some path → MayBeNeeded path
-    by true bare directory is is_bare e =
+    by true bare directory is is_bare_directory e =
         let same : directory ≡ path = cc in
         subst MayBeNeeded same (inl ((bytes_eq-Decides directory own_directory).0 is))
-    by false true directory is is_bare e =
+    by false true directory is is_bare_directory e =
         let same : directory ≡ path = cc in
-        subst MayBeNeeded same (inr (bare_text directory is_bare))
-    by false false directory is is_bare e = absurd cc
+        subst MayBeNeeded same (inr (bare_text directory is_bare_directory))
+    by false false directory is is_bare_directory e = absurd cc
 
 -- a path that a list of directories names
 listed_word : (directory word path : List ℕ) → path_of_word directory word ≡ Some path → MayBeNeeded path
@@ -229,7 +231,7 @@ path_wanted text spec wanted e =
 target_needed : (depend : DependValue) (path : List ℕ) → target_by depend ≡ Some path → MayBeNeeded path
 target_needed depend path e =
     let t = map_some (λ (wanted : WantedValue). port_path wanted.path) (wanted_of depend.item) path e in
-    let u = then_some wanted_in (named_parts (reading.parts_of depend.item)) t.0 t.1 in
+    let u = then_some wanted_in (named_parts (item_text.parts_of_item depend.item)) t.0 t.1 in
     let v = then_some (wanted_by (at_sign u.0.path).before) (spec_text u.0.spec (at_sign u.0.path).behind) t.0 u.2 in
     subst MayBeNeeded t.2 (inr (port_is_bare (at_sign u.0.path).before t.0.path (path_wanted (at_sign u.0.path).before v.0 t.0 v.2)))
 
@@ -250,7 +252,7 @@ module _ (world : World) where
       each-in_order MayBeNeeded (flat_map (named_at (outcome_at world)) found ++ found)
       (each-append MayBeNeeded (flat_map (named_at (outcome_at world)) found) found
       (each-flat_map MayBeNeeded (named_at (outcome_at world)) (λ directory. listed_at directory (outcome_at world directory)) found)
-      (each-in_order MayBeNeeded (filter_map naming.directory_of (keys (files_in world))) (each-given MayBeNeeded naming.directory_of listed_directory (keys (files_in world)))))
+      (each-in_order MayBeNeeded (filter_map tree_paths.listable_directory (keys (files_in world))) (each-given MayBeNeeded tree_paths.listable_directory listed_directory (keys (files_in world)))))
 
   all_needed : AllByRecursion MayBeNeeded (needed_paths world)
   all_needed =
@@ -295,7 +297,7 @@ module _ (world : World) (trees : IsSearchPath (search_path_of world)) where
       let value = bare.value in
       let t = map_some (λ makefile. let pair : Pair = record { makefile = makefile; flavors = value.flavors } in pair) (place world value.directory) pair e in
       let f = in_tree (files_in world) value.directory t.0 (search_path_of world) all_trees t.1 in
-      let stem = parts_of value.directory in
+      let stem = parts_of_name value.directory in
       subst (IsFoundFor path) t.2 (record {
         stem = stem;
         named = named_in f.0 f.1 value.directory t.0 f.2 (has_directory path value bare.read);

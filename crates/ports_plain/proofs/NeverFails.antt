@@ -1,10 +1,9 @@
 -- The plain service answers no failure of its own.
 use Rattle.std.proofs.Common.{◌≡◌, ℕ, ◌==◌, true, false, List, Option, Some, None, option_map, refl}
-use Rattle.std.specs.Prelude.{Result, Ok, Err, codes, if◌then◌else◌}
-use Rattle.std.specs.Option.{option_map_or}
+use Rattle.std.specs.Prelude.{Result, Ok, Err, codes, if◌then◌else◌, is_some}
 use Rattle.std.specs.Str.{is_utf8}
-use Rattle.std.specs.FinMap.{get, contains_key}
-use Rattle.mk_paths.specs.World.{FileMap, World, files_in}
+use Rattle.std.specs.FinMap.{get}
+use Rattle.mk_paths.specs.World.{World, files_in}
 use Rattle.mk_paths.specs.SearchPath.{search_path}
 use Rattle.mk_paths.specs.Place.{place}
 use Rattle.mk_paths.specs.declared.file_name.NameFault.{NameFault}
@@ -14,24 +13,24 @@ use Rattle.mk_eval.specs.declared.outcome.Failed.{Failed}
 use Rattle.mk_paths.specs.FileName.{resolved}
 use Rattle.ports_http.specs.declared.method.Method.{Method}
 use Rattle.ports_http.specs.declared.method.Method.TheVariants.{Get, Put, Delete}
-use Rattle.ports_plain.specs.declared.routing.Route.{Route}
-use Rattle.ports_plain.specs.declared.routing.Route.TheVariants.{Deps, Faults, File, List as AllPackages, Match, Path, Port, Profile as Language, Rdeps, Var}
+use Rattle.ports_plain.specs.declared.routes.Route.{Route}
+use Rattle.ports_plain.specs.declared.routes.Route.TheVariants.{Deps, Faults, File, List as AllPackages, Match, Path, Port, Profile as Language, Rdeps, Var}
 use Rattle.pkg_path.specs.Paths.{PathValue, path_of, port_path}
 use Rattle.pkg_path.specs.declared.faults.PkgPathFault.{PkgPathFault}
-use Rattle.port_rules.specs.declared.recording.Recorded.{Recorded}
+use Rattle.port_rules.specs.declared.records.Recorded.{Recorded}
 use Rattle.ports_plain.specs.Routes.{route_of}
-use Rattle.ports_plain.specs.Target.{path_of as target_path, query_of as query_of_target}
+use Rattle.ports_plain.specs.Target.{path_of_target as target_path, query_of as query_of_target}
 use Rattle.ports_plain.specs.Parameters.{parameter, optional}
 use Rattle.ports_plain.specs.Subpackages.{has_named}
-use Rattle.ports_plain.specs.IndexRoutes.{list_by, match_reply, match_by, bad_spec, depth_of, dependencies_body_of, dependencies_by, reply_to, question_on, question_of, question_in, get_dependencies}
-use Rattle.ports_plain.specs.PathParameter.{path_or_refusal, path_of_parameter, path_in, reply_or_refusal}
+use Rattle.ports_plain.specs.IndexRoutes.{bad_spec, depth_of, dependencies_body_of, dependencies_by, reply_to, question_on, question_of as dependency_asked, question_of_query}
+use Rattle.ports_plain.specs.PathParameter.{path_or_refusal, path_of_parameter, path_in}
 use Rattle.ports_plain.specs.declared.dependencies.Direction.{Direction}
 use Rattle.ports_plain.specs.declared.dependencies.Direction.TheVariants.{Dependencies, Dependents}
 use Rattle.ports_plain.specs.declared.dependencies.DependencyQuestion.{DependencyQuestion}
 use Rattle.ports_plain.specs.declared.depth.Depth.{Depth}
-use Rattle.ports_query.specs.Conditions.{ConditionValue, query_of}
+use Rattle.ports_query.specs.Conditions.{ConditionValue, query_conditions}
 use Rattle.ports_query.specs.Kinds.{kinds_of}
-use Rattle.ports_query.specs.Listing.{root_named}
+use Rattle.ports_query.specs.ListedPackages.{root_named}
 use Rattle.ports_query.specs.declared.kinds.Kinds.{Kinds}
 use Rattle.ports_index.specs.Index.{roots, edges}
 use Rattle.port_deps.specs.Roots.{RootValue, RootEdgeValue}
@@ -41,33 +40,29 @@ use Rattle.mk_base.specs.FaultAt.{FaultAt}
 use Rattle.mk_text.specs.declared.profile.Profile.{Profile}
 use Rattle.std.specs.Result.{is_ok}
 use Rattle.ports_http.specs.Messages.{ReplyMessage}
-use Rattle.ports_plain.specs.Trimming.{trimmed}
-use Rattle.ports_plain.specs.Replies.{bad_parameter, bad_path, full, json_reply, no_file, no_subpackage, removed, port_shown}
-use Rattle.ports_plain.specs.Plain.{PlainRequest, reply_alone, content_shown, on_named_file, on_resolved, on_file, set_trees, set_path, profile_named, set_language, on_profile, value_after, value_reply, variable_at, variable_of, get_variable, record_after, port_reply, port_at, port_of, get_reply, on_query, on_path, answer_on, answer, plain}
-use Rattle.ports_plain.specs.declared.changing.Change.{Change}
-use Rattle.ports_plain.specs.declared.changing.Change.TheVariants.{RemoveFile}
-use Rattle.ports_plain.specs.Changing.{changed, overfills, settle_change}
+use Rattle.ports_plain.specs.Spaces.{trimmed}
+use Rattle.ports_plain.specs.Replies.{bad_parameter, bad_path, storage_full, json_reply, no_file, no_subpackage, removed, port_shown}
+use Rattle.ports_plain.specs.Requests.{PlainRequest, reply_alone}
+use Rattle.ports_plain.specs.SettingAnswers.{set_trees, set_path, profile_named, set_language}
+use Rattle.ports_plain.specs.PortReplies.{value_after, value_reply, variable_at, variable_of, record_after, port_reply, port_at, port_at_path}
+use Rattle.ports_plain.specs.Questions.{refused_question, question_or_refusal, with_parameter, named_file_question, resolved_question, conditions_question, spec_question, get_question, query_question, path_question, profile_question, question_on_route, question_of}
+use Rattle.ports_plain.specs.Answers.{content_shown, file_asked, file_answer, port_reply_to, index_reply, answer_to}
+use Rattle.ports_plain.specs.Plain.{plain}
+use Rattle.ports_plain.specs.declared.questions.Question.{Question}
+use Rattle.ports_plain.specs.declared.questions.Question.TheVariants.{Settled, OfFile, OfPort, OfIndex}
+use Rattle.ports_plain.specs.declared.files.FileQuestion.{FileQuestion}
+use Rattle.ports_plain.specs.declared.files.FileQuestion.TheVariants.{Show, Remove}
+use Rattle.ports_plain.specs.declared.port_questions.PortQuestion.{PortQuestion}
+use Rattle.ports_plain.specs.declared.port_questions.PortQuestion.TheVariants.{Variable, Record}
+use Rattle.ports_plain.specs.declared.index_questions.IndexQuestion.{IndexQuestion}
+use Rattle.ports_plain.specs.declared.index_questions.IndexQuestion.TheVariants as index
+use Rattle.ports_plain.specs.declared.change.Change.{Change}
+use Rattle.ports_plain.specs.declared.change.Change.TheVariants.{RemoveFile}
+use Rattle.ports_plain.specs.Change.{changed, overfills, settle_change}
 
 content-fine : (content : Option (List ℕ)) → ((content_shown content).status == 503) ≡ false
 content-fine (Some content) = refl
 content-fine None = refl
-
-on_named_file-fine : (files : FileMap) (method : Method) (body name : List ℕ) → ((on_named_file files method body name).0.status == 503) ≡ false
-on_named_file-fine files Get body name = content-fine (get files name)
-on_named_file-fine files Put body name = refl
-on_named_file-fine files Delete body name =
-    elim (contains_key files name) as (λ b. ((if b then (removed, Some (RemoveFile name)) else reply_alone no_file).0.status == 503) ≡ false) [
-      | true ↦ refl
-      | false ↦ refl
-    ]
-
-on_resolved-fine : (files : FileMap) (method : Method) (body : List ℕ) (name : Result (List ℕ) NameFault) → ((on_resolved files method body name).0.status == 503) ≡ false
-on_resolved-fine files method body (Ok name) = on_named_file-fine files method body name
-on_resolved-fine files method body (Err fault) = refl
-
-on_file-fine : (files : FileMap) (method : Method) (body : List ℕ) (name : Option (List ℕ)) → ((on_file files method body name).0.status == 503) ≡ false
-on_file-fine files method body (Some name) = on_resolved-fine files method body (resolved name)
-on_file-fine files method body None = refl
 
 set_trees-fine : (text : List ℕ) (trees : Option (List (List ℕ))) → ((set_trees text trees).0.status == 503) ≡ false
 set_trees-fine text (Some trees) = refl
@@ -87,13 +82,20 @@ set_language-fine None = refl
 -- what was read of a query, or a refusal that isn't 503
 RefusesFinely : {A : Type 0} → Result A ReplyMessage → Type 0
 RefusesFinely (Ok value) = Unit {0}
-RefusesFinely (Err refused) = (refused.status == 503) ≡ false
+RefusesFinely (Err reply) = (reply.status == 503) ≡ false
 
-either-fine : {A : Type 0} (reply : A → ReplyMessage) → ((value : A) → ((reply value).status == 503) ≡ false) → (read : Result A ReplyMessage) → RefusesFinely read
-    → ((reply_or_refusal reply read).status == 503) ≡ false
-unfolding RefusesFinely
-either-fine reply fine (Ok value) refuses = fine value
-either-fine reply fine (Err refused) refuses = refuses
+-- what is settled isn't answered 503
+SettlesFinely : Question → Type 0
+SettlesFinely (Settled prepared) = (prepared.reply.status == 503) ≡ false
+SettlesFinely (OfFile asked) = Unit {0}
+SettlesFinely (OfPort asked) = Unit {0}
+SettlesFinely (OfIndex asked) = Unit {0}
+
+read-fine : {A : Type 0} (question : A → Question) → ((value : A) → SettlesFinely (question value)) → (read : Result A ReplyMessage) → RefusesFinely read
+    → SettlesFinely (question_or_refusal question read)
+unfolding RefusesFinely SettlesFinely
+read-fine question fine (Ok value) refuses = fine value
+read-fine question fine (Err reply) refuses = refuses
 
 path-fine : (path : Result PathValue PkgPathFault) → RefusesFinely (path_or_refusal path)
 unfolding RefusesFinely
@@ -105,13 +107,11 @@ unfolding RefusesFinely
 path_in-fine (Some text) = path-fine (path_of text)
 path_in-fine None = refl
 
-with_path-fine : (reply : PathValue → ReplyMessage) → ((path : PathValue) → ((reply path).status == 503) ≡ false) → (query : List ℕ) → ((reply_or_refusal reply (path_in query)).status == 503) ≡ false
-with_path-fine reply fine query = either-fine reply fine (path_in query) (path_in-fine (parameter (codes "path") query))
-
 -- a parameter, or the refusal where it isn't as it must be
-parameter-fine : (reply : List ℕ → ReplyMessage) → ((text : List ℕ) → ((reply text).status == 503) ≡ false) → (text : Option (List ℕ)) → ((option_map_or reply text bad_parameter).status == 503) ≡ false
-parameter-fine reply fine (Some text) = fine text
-parameter-fine reply fine None = refl
+parameter-fine : (question : List ℕ → Question) → ((text : List ℕ) → SettlesFinely (question text)) → (text : Option (List ℕ)) → SettlesFinely (with_parameter question text)
+unfolding SettlesFinely
+parameter-fine question fine (Some text) = fine text
+parameter-fine question fine None = refl
 
 value_reply-fine : (value : Result (Option Expanded) Failed) → ((value_reply value).status == 503) ≡ false
 value_reply-fine (Ok value) = refl
@@ -123,10 +123,6 @@ variable_at-fine world name flavors None = refl
 
 variable_of-fine : (world : World) (name : List ℕ) (path : PathValue) → ((variable_of world name path).status == 503) ≡ false
 variable_of-fine world name path = variable_at-fine world name path.flavors (place world path.directory)
-
-get_variable-fine : (world : World) (query : List ℕ) → ((get_variable world query).status == 503) ≡ false
-get_variable-fine world query =
-    parameter-fine (λ name. reply_or_refusal (variable_of world name) (path_in query)) (λ name. with_path-fine (variable_of world name) (variable_of-fine world name) query) (parameter (codes "name") query)
 
 port_reply-fine : (path : PathValue) (found : Result (Option Recorded) Failed) → ((port_reply path found).status == 503) ≡ false
 port_reply-fine path (Ok (Some recorded)) =
@@ -141,21 +137,10 @@ port_at-fine : (world : World) (path : PathValue) (makefile : Option (List ℕ))
 port_at-fine world path (Some makefile) = port_reply-fine path (record_after makefile (means world makefile path.flavors))
 port_at-fine world path None = refl
 
-port_of-fine : (world : World) (path : PathValue) → ((port_of world path).status == 503) ≡ false
-port_of-fine world path = port_at-fine world path (place world path.directory)
+port_at_path-fine : (world : World) (path : PathValue) → ((port_at_path world path).status == 503) ≡ false
+port_at_path-fine world path = port_at-fine world path (place world path.directory)
 
 -- the lists
-
-list_by-fine : (world : World) (conditions : Option (List ConditionValue)) → ((list_by world conditions).status == 503) ≡ false
-list_by-fine world (Some conditions) = refl
-list_by-fine world None = refl
-
-match_by-fine : (world : World) (text : List ℕ) → ((match_by world text).status == 503) ≡ false
-match_by-fine world text =
-    elim (is_ok (spec_of text)) as (λ b. ((if b then match_reply world text else bad_spec).status == 503) ≡ false) [
-      | true ↦ refl
-      | false ↦ refl
-    ]
 
 dependencies_by-fine : (edges : List RootEdgeValue) (question : DependencyQuestion) (state : Option (Result PortValue FaultAt)) → ((dependencies_by edges question state).status == 503) ≡ false
 dependencies_by-fine edges question None = refl
@@ -173,73 +158,141 @@ reply_to-fine world Dependents question = refl
 
 question_on-fine : (path : Result PathValue ReplyMessage) (kinds : Option Kinds) (depth : Option Depth) → RefusesFinely path → RefusesFinely (question_on path kinds depth)
 unfolding RefusesFinely
-question_on-fine (Err refused) kinds depth refuses = refuses
+question_on-fine (Err reply) kinds depth refuses = refuses
 question_on-fine (Ok path) (Some kinds) (Some depth) refuses = tt
 question_on-fine (Ok path) (Some kinds) None refuses = refl
 question_on-fine (Ok path) None depth refuses = refl
 
-question_of-fine : (path : Result PathValue ReplyMessage) (kind depth : Option (List ℕ)) → RefusesFinely path → RefusesFinely (question_of path kind depth)
+dependency_asked-fine : (path : Result PathValue ReplyMessage) (kind depth : Option (List ℕ)) → RefusesFinely path → RefusesFinely (dependency_asked path kind depth)
 unfolding RefusesFinely
-question_of-fine path (Some kind) (Some depth) refuses = question_on-fine path (kinds_of kind) (depth_of depth) refuses
-question_of-fine path (Some kind) None refuses = refl
-question_of-fine path None depth refuses = refl
+dependency_asked-fine path (Some kind) (Some depth) refuses = question_on-fine path (kinds_of kind) (depth_of depth) refuses
+dependency_asked-fine path (Some kind) None refuses = refl
+dependency_asked-fine path None depth refuses = refl
 
-get_dependencies-fine : (world : World) (direction : Direction) (query : List ℕ) → ((get_dependencies world direction query).status == 503) ≡ false
-get_dependencies-fine world direction query =
-    either-fine (reply_to (roots world) (edges world) direction) (reply_to-fine world direction) (question_in query)
-    (question_of-fine (path_in query) (optional (codes "kind") query) (optional (codes "depth") query) (path_in-fine (parameter (codes "path") query)))
+question_of_query-fine : (query : List ℕ) → RefusesFinely (question_of_query query)
+question_of_query-fine query =
+    dependency_asked-fine (path_in query) (optional (codes "kind") query) (optional (codes "depth") query) (path_in-fine (parameter (codes "path") query))
 
-get_reply-fine : (world : World) (query : List ℕ) (route : Route) → ((get_reply world query route).status == 503) ≡ false
-get_reply-fine world query Deps = get_dependencies-fine world Dependencies query
-get_reply-fine world query Faults = refl
-get_reply-fine world query File = refl
-get_reply-fine world query AllPackages = parameter-fine (λ text. list_by world (query_of text)) (λ text. list_by-fine world (query_of text)) (optional (codes "where") query)
-get_reply-fine world query Match = parameter-fine (match_by world) (match_by-fine world) (parameter (codes "spec") query)
-get_reply-fine world query Path = refl
-get_reply-fine world query Port = with_path-fine (port_of world) (port_of-fine world) query
-get_reply-fine world query Language = refl
-get_reply-fine world query Rdeps = get_dependencies-fine world Dependents query
-get_reply-fine world query Var = get_variable-fine world query
+-- the questions
 
-on_query-fine : (world : World) (query : List ℕ) (route : Route) (method : Method) → ((on_query world query route method).0.status == 503) ≡ false
-on_query-fine world query route Get = get_reply-fine world query route
-on_query-fine world query route Put = refl
-on_query-fine world query route Delete = refl
+conditions-fine : (conditions : Option (List ConditionValue)) → SettlesFinely (conditions_question conditions)
+unfolding SettlesFinely
+conditions-fine (Some conditions) = tt
+conditions-fine None = refl
 
-on_path-fine : (body : List ℕ) (method : Method) → ((on_path body method).0.status == 503) ≡ false
-on_path-fine body Put = set_path-fine body
-on_path-fine body Get = refl
-on_path-fine body Delete = refl
+spec-fine : (text : List ℕ) → SettlesFinely (spec_question text)
+unfolding SettlesFinely
+spec-fine text =
+    elim (is_ok (spec_of text)) as (λ b. SettlesFinely (if b then OfIndex (index.Match text) else refused_question bad_spec)) [
+      | true ↦ tt
+      | false ↦ refl
+    ]
 
-on_profile-fine : (body : List ℕ) (method : Method) → ((on_profile body method).0.status == 503) ≡ false
-on_profile-fine body Put = set_language-fine (profile_named (trimmed body))
-on_profile-fine body Get = refl
-on_profile-fine body Delete = refl
+named_file-fine : (method : Method) (body name : List ℕ) → SettlesFinely (named_file_question method body name)
+unfolding SettlesFinely
+named_file-fine Get body name = tt
+named_file-fine Put body name = refl
+named_file-fine Delete body name = tt
 
-answer_on-fine : (world : World) (request : PlainRequest) (route : Option Route) → ((answer_on world request route).0.status == 503) ≡ false
-answer_on-fine world request None = refl
-answer_on-fine world request (Some Deps) = on_query-fine world (query_of_target request.target) Deps request.method
-answer_on-fine world request (Some Faults) = on_query-fine world (query_of_target request.target) Faults request.method
-answer_on-fine world request (Some File) = on_file-fine (files_in world) request.method request.body (parameter (codes "name") (query_of_target request.target))
-answer_on-fine world request (Some AllPackages) = on_query-fine world (query_of_target request.target) AllPackages request.method
-answer_on-fine world request (Some Match) = on_query-fine world (query_of_target request.target) Match request.method
-answer_on-fine world request (Some Path) = on_path-fine request.body request.method
-answer_on-fine world request (Some Language) = on_profile-fine request.body request.method
-answer_on-fine world request (Some Port) = on_query-fine world (query_of_target request.target) Port request.method
-answer_on-fine world request (Some Rdeps) = on_query-fine world (query_of_target request.target) Rdeps request.method
-answer_on-fine world request (Some Var) = on_query-fine world (query_of_target request.target) Var request.method
+resolved-fine : (method : Method) (body : List ℕ) (name : Result (List ℕ) NameFault) → SettlesFinely (resolved_question method body name)
+unfolding SettlesFinely
+resolved-fine method body (Ok name) = named_file-fine method body name
+resolved-fine method body (Err fault) = refl
+
+variable-fine : (query name : List ℕ) → SettlesFinely (question_or_refusal (λ path. OfPort (Variable (record { path = path; name = name }))) (path_in query))
+unfolding SettlesFinely
+variable-fine query name =
+    read-fine (λ path. OfPort (Variable (record { path = path; name = name }))) (λ path. tt) (path_in query) (path_in-fine (parameter (codes "path") query))
+
+get-fine : (query : List ℕ) (route : Route) → SettlesFinely (get_question query route)
+unfolding SettlesFinely
+get-fine query Deps = read-fine (λ asked. OfIndex (index.Dependencies Dependencies asked)) (λ asked. tt) (question_of_query query) (question_of_query-fine query)
+get-fine query Faults = tt
+get-fine query File = refl
+get-fine query AllPackages = parameter-fine (λ text. conditions_question (query_conditions text)) (λ text. conditions-fine (query_conditions text)) (optional (codes "where") query)
+get-fine query Match = parameter-fine spec_question spec-fine (parameter (codes "spec") query)
+get-fine query Path = refl
+get-fine query Port = read-fine (λ path. OfPort (Record path)) (λ path. tt) (path_in query) (path_in-fine (parameter (codes "path") query))
+get-fine query Language = refl
+get-fine query Rdeps = read-fine (λ asked. OfIndex (index.Dependencies Dependents asked)) (λ asked. tt) (question_of_query query) (question_of_query-fine query)
+get-fine query Var =
+    parameter-fine (λ name. question_or_refusal (λ path. OfPort (Variable (record { path = path; name = name }))) (path_in query)) (variable-fine query)
+    (parameter (codes "name") query)
+
+query-fine : (query : List ℕ) (route : Route) (method : Method) → SettlesFinely (query_question query route method)
+unfolding SettlesFinely
+query-fine query route Get = get-fine query route
+query-fine query route Put = refl
+query-fine query route Delete = refl
+
+path-question-fine : (body : List ℕ) (method : Method) → SettlesFinely (path_question body method)
+unfolding SettlesFinely
+path-question-fine body Put = set_path-fine body
+path-question-fine body Get = refl
+path-question-fine body Delete = refl
+
+profile-question-fine : (body : List ℕ) (method : Method) → SettlesFinely (profile_question body method)
+unfolding SettlesFinely
+profile-question-fine body Put = set_language-fine (profile_named (trimmed body))
+profile-question-fine body Get = refl
+profile-question-fine body Delete = refl
+
+route-fine : (request : PlainRequest) (route : Option Route) → SettlesFinely (question_on_route request route)
+unfolding SettlesFinely
+route-fine request None = refl
+route-fine request (Some Deps) = query-fine (query_of_target request.target) Deps request.method
+route-fine request (Some Faults) = query-fine (query_of_target request.target) Faults request.method
+route-fine request (Some File) =
+    parameter-fine (λ text. resolved_question request.method request.body (resolved text)) (λ text. resolved-fine request.method request.body (resolved text))
+    (parameter (codes "name") (query_of_target request.target))
+route-fine request (Some AllPackages) = query-fine (query_of_target request.target) AllPackages request.method
+route-fine request (Some Match) = query-fine (query_of_target request.target) Match request.method
+route-fine request (Some Path) = path-question-fine request.body request.method
+route-fine request (Some Language) = profile-question-fine request.body request.method
+route-fine request (Some Port) = query-fine (query_of_target request.target) Port request.method
+route-fine request (Some Rdeps) = query-fine (query_of_target request.target) Rdeps request.method
+route-fine request (Some Var) = query-fine (query_of_target request.target) Var request.method
+
+question-fine : (request : PlainRequest) → SettlesFinely (question_of request)
+unfolding question_of
+question-fine request = route-fine request (route_of (target_path request.target))
+
+-- the answers
+
+file-fine : (asked : FileQuestion) (content : Option (List ℕ)) → ((file_answer asked content).0.status == 503) ≡ false
+file-fine (Show name) content = content-fine content
+file-fine (Remove name) content =
+    elim (is_some content) as (λ b. ((if b then (removed, Some (RemoveFile name)) else reply_alone no_file).0.status == 503) ≡ false) [
+      | true ↦ refl
+      | false ↦ refl
+    ]
+
+port-fine : (world : World) (asked : PortQuestion) → ((port_reply_to world asked).status == 503) ≡ false
+port-fine world (Variable asked) = variable_of-fine world asked.name asked.path
+port-fine world (Record path) = port_at_path-fine world path
+
+index-fine : (world : World) (asked : IndexQuestion) → ((index_reply world asked).status == 503) ≡ false
+index-fine world (index.List conditions) = refl
+index-fine world (index.Match spec) = refl
+index-fine world index.Faults = refl
+index-fine world (index.Dependencies direction asked) = reply_to-fine world direction asked
+
+answer_to-fine : (world : World) (question : Question) → SettlesFinely question → ((answer_to world question).0.status == 503) ≡ false
+unfolding SettlesFinely
+answer_to-fine world (Settled prepared) fine = fine
+answer_to-fine world (OfFile asked) fine = file-fine asked (get (files_in world) (file_asked asked))
+answer_to-fine world (OfPort asked) fine = port-fine world asked
+answer_to-fine world (OfIndex asked) fine = index-fine world asked
 
 settle_change-fine : (world : World) (reply : ReplyMessage) (change : Option Change) → (reply.status == 503) ≡ false → ((settle_change world reply change).0.status == 503) ≡ false
 settle_change-fine world reply None fine = fine
 settle_change-fine world reply (Some change) fine =
-    elim (overfills world change) as (λ b. ((if◌then◌else◌ {A = ReplyMessage × World} b (full, world) (reply, changed world change)).0.status == 503) ≡ false) [
+    elim (overfills world change) as (λ b. ((if◌then◌else◌ {A = ReplyMessage × World} b (storage_full, world) (reply, changed world change)).0.status == 503) ≡ false) [
       | true ↦ refl
       | false ↦ fine
     ]
 
-answer-fine : (world : World) (request : PlainRequest) → ((answer world request).0.status == 503) ≡ false
-unfolding answer
-answer-fine world request = answer_on-fine world request (route_of (target_path request.target))
-
 pub never_503 : (world : World) (request : PlainRequest) → ((plain world request).0.status == 503) ≡ false
-never_503 world request = settle_change-fine world (answer world request).0 (answer world request).1 (answer-fine world request)
+never_503 world request =
+    settle_change-fine world (answer_to world (question_of request)).0 (answer_to world (question_of request)).1
+    (answer_to-fine world (question_of request) (question-fine request))

@@ -4,23 +4,23 @@ use Rattle.std.specs.Str.{bytes_eq}
 use Rattle.matchit.specs.Rows.{RowsOf}
 use Rattle.matchit.specs.Router.{RouteOf}
 use Rattle.matchit.specs.Seek.{first}
-use Rattle.ports_plain.specs.declared.routing.Route.{Route}
+use Rattle.ports_plain.specs.declared.routes.Route.{Route}
 use Rattle.ports_plain.specs.Routes.{under, table, route_of}
-use Rattle.ports_plain.specs.RouteRows.{row, rows}
+use Rattle.ports_plain.specs.RouteRows.{route_row, rows}
 use Rattle.ports_plain.proofs.LiteralRoutes.{row_of, seek_literal}
 
 picks : (here : Bool) (entry : List ℕ × Route) (others : Option (RouteOf Route)) (later : Option Route)
     → option_map (λ (found : RouteOf Route). found.value) others ≡ later
-    → option_map (λ (found : RouteOf Route). found.value) (if here then Some (row entry).1 else others) ≡ (if here then Some entry.1 else later)
+    → option_map (λ (found : RouteOf Route). found.value) (if here then Some (route_row entry).1 else others) ≡ (if here then Some entry.1 else later)
 picks true entry others later same = refl
 picks false entry others later same = same
 
 -- a table as rows has what the table has
 row_of-rows : (entries : List (List ℕ × Route)) (path : List ℕ)
-    → option_map (λ (found : RouteOf Route). found.value) (row_of (map row entries) path) ≡ under entries path
+    → option_map (λ (found : RouteOf Route). found.value) (row_of (map route_row entries) path) ≡ under entries path
 row_of-rows [] path = refl
 row_of-rows (entry ∷ entries) path =
-    picks (bytes_eq entry.0 path) entry (row_of (map row entries) path) (under entries path) (row_of-rows entries path)
+    picks (bytes_eq entry.0 path) entry (row_of (map route_row entries) path) (under entries path) (row_of-rows entries path)
 
 -- the route that the router finds
 found_route : (router : RowsOf (RouteOf Route)) → router ≡ rows → (path : List ℕ)

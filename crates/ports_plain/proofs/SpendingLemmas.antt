@@ -1,8 +1,8 @@
 -- What may be spent is bounded.
 use Rattle.std.proofs.Common.{◌≡◌, ℕ, ◌≤◌, ◌-◌, ◌⊎◌, inl, inr, ap, arith}
-use Rattle.ports_index.specs.declared.spending.Spent.{Spent}
+use Rattle.ports_index.specs.declared.spent.Spent.{Spent}
 use Rattle.ports_plain.specs.declared.questions.Question.TheVariants.{Settled, OfFile, OfPort, OfIndex}
-use Rattle.ports_plain.specs.Spending.{SpendsNoMore, ChecksNoMore, SpendsAllUnchecked}
+use Rattle.ports_plain.specs.Spent.{SpendsNoMore, ChecksNoMore, SpendsAllUnchecked}
 
 -- all units are spent, or those of the evaluation less
 within_paid : (cost evaluation units checks : ℕ) → (units ≡ cost) ⊎ ((1 ≤ checks) × (units ≡ cost - evaluation)) → units ≤ cost

@@ -2,7 +2,7 @@
 use Rattle.std.proofs.Common.{◌≡◌, ℕ, true, false, List, [], ◌∷◌, ◌++◌, reverse, sym, ap, ◌∙◌}
 use Rattle.std.proofs.lemmas.Bool.{cond-true, cond-false}
 use Rattle.std.proofs.lemmas.List.{reverse-append, reverse-reverse}
-use Rattle.ports_plain.specs.Trimming.{is_space, skip_spaces}
+use Rattle.ports_plain.specs.Spaces.{is_space, skip_spaces}
 
 skips : (byte : ℕ) (rest : List ℕ) → is_space byte ≡ true → skip_spaces (byte ∷ rest) ≡ skip_spaces rest
 unfolding skip_spaces

@@ -14,13 +14,13 @@ use Rattle.serde_json.specs.View.{items_of}
 use Rattle.serde_json.specs.Written.{items_outline, members_outline, compact_text}
 use Rattle.serde_json.proofs.Texts.{print-outline}
 use Rattle.ports_plain.specs.ListBodies.{list_body}
-use Rattle.ports_plain.specs.declared.writing.Scalar.{Scalar}
-use Rattle.ports_plain.specs.Writing.{value_tokens, value_of, members_of, AddsTokens, Adds, AddsItems, HasItems}
-use Rattle.ports_plain.specs.Writing.{Member, tokens_of, AddsMember, HasMembers, in_object, object_of}
+use Rattle.ports_plain.specs.declared.json_text.Scalar.{Scalar}
+use Rattle.ports_plain.specs.JsonText.{value_tokens, scalar_value, members_of, AddsTokens, AddsValue, AddsItems, HasItems}
+use Rattle.ports_plain.specs.JsonText.{Member, tokens_of_member, AddsMember, HasMembers, in_object, object_of}
 
 -- the tokens of a member
 abbrev pub member_tokens : Bor (List ℕ) × Scalar → List Token
-member_tokens one = key one.0.now ∷ value_tokens (value_of one.1)
+member_tokens one = key one.0.now ∷ value_tokens (scalar_value one.1)
 
 ended_members : (members : List (Bor (List ℕ) × Scalar)) → flat_map member_tokens members ++ end_object ∷ [] ≡ members_tokens (members_outline (members_of members))
 ended_members [] = refl
@@ -37,7 +37,7 @@ one_token_more {r} {before} {more} {token} added written = on_ok_weaker r (λ gr
 
 -- an object, once all its members are written
 pub object_added : {E : Type 0} {r : Result (Unit {0}) E} {before between after : Written} (members : List (Bor (List ℕ) × Scalar)) (i : ℕ) → length members ≤ i
-    → AddsTokens before between (begin_object ∷ flat_map member_tokens (take i members)) → Writes r between after end_object → OnOk r (Adds before after (object (members_of members)))
+    → AddsTokens before between (begin_object ∷ flat_map member_tokens (take i members)) → Writes r between after end_object → OnOk r (AddsValue before after (object (members_of members)))
 object_added {r} {before} {after} members i all added written =
     subst (λ tokens. OnOk r (AddsTokens before after (begin_object ∷ tokens)))
     (ap (λ (part : List (Bor (List ℕ) × Scalar)). flat_map member_tokens part ++ end_object ∷ []) (take_all i members all) ∙ ended_members members) (one_token_more added written)
@@ -80,23 +80,23 @@ pub one_member_more : {before after : Written} {members : List Member} (name : L
     → AddsMember before after name value → HasMembers after (members ++ (name, value) ∷ [])
 one_member_more {members = members} name value has adds = record {
   start = adds.start ∙ has.start;
-  so_far = adds.grown ∙ ap (λ tokens. tokens ++ tokens_of (name, value)) has.so_far ∙ ap (λ tokens. begin_object ∷ tokens) (more members);
+  so_far = adds.grown ∙ ap (λ tokens. tokens ++ tokens_of_member (name, value)) has.so_far ∙ ap (λ tokens. begin_object ∷ tokens) (more members);
 } where
   more : (members : List Member)
-      → flat_map tokens_of members ++ tokens_of (name, value) ≡ flat_map tokens_of (members ++ (name, value) ∷ [])
-  more [] = sym (append-nil (tokens_of (name, value)))
-  more (first ∷ others) = append_assoc (tokens_of first) (flat_map tokens_of others) (tokens_of (name, value))
-      ∙ ap (λ tokens. tokens_of first ++ tokens) (more others)
+      → flat_map tokens_of_member members ++ tokens_of_member (name, value) ≡ flat_map tokens_of_member (members ++ (name, value) ∷ [])
+  more [] = sym (append-nil (tokens_of_member (name, value)))
+  more (first ∷ others) = append_assoc (tokens_of_member first) (flat_map tokens_of_member others) (tokens_of_member (name, value))
+      ∙ ap (λ tokens. tokens_of_member first ++ tokens) (more others)
 
 ended_object : (members : List Member)
-    → flat_map tokens_of members ++ end_object ∷ [] ≡ members_tokens (members_outline (in_object members))
+    → flat_map tokens_of_member members ++ end_object ∷ [] ≡ members_tokens (members_outline (in_object members))
 ended_object [] = refl
 ended_object (first ∷ others) =
-    append_assoc (tokens_of first) (flat_map tokens_of others) (end_object ∷ [])
-    ∙ ap (λ tokens. tokens_of first ++ tokens) (ended_object others)
+    append_assoc (tokens_of_member first) (flat_map tokens_of_member others) (end_object ∷ [])
+    ∙ ap (λ tokens. tokens_of_member first ++ tokens) (ended_object others)
 
 -- the text of an object
-pub object_text : (members : List Member) (tokens : List Token) → tokens ≡ begin_object ∷ flat_map tokens_of members
+pub object_text : (members : List Member) (tokens : List Token) → tokens ≡ begin_object ∷ flat_map tokens_of_member members
     → print (tokens ++ end_object ∷ []) ≡ compact_text (object_of members)
 object_text members tokens is =
     ap (λ so_far. print (so_far ++ end_object ∷ [])) is ∙ ap (λ rest. print (begin_object ∷ rest)) (ended_object members)

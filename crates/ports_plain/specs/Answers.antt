@@ -1,11 +1,11 @@
 -- The answer to a question over a world.
-use Rattle.std.specs.Prelude.{◌≡◌, ℕ, Bool, true, false, if◌then◌else◌, List, Option, Some, Result, is_some}
+use Rattle.std.specs.Prelude.{ℕ, Bool, true, false, if◌then◌else◌, List, Option, Some, None, Result, is_some}
 use Rattle.std.specs.FinMap.{get}
 use Rattle.mk_paths.specs.World.{World, files_in}
 use Rattle.mk_eval.specs.declared.outcome.Evaluated.{Evaluated}
 use Rattle.mk_eval.specs.declared.outcome.Failed.{Failed}
 use Rattle.ports_http.specs.Messages.{ReplyMessage}
-use Rattle.ports_plain.specs.declared.changing.Change.TheVariants.{RemoveFile}
+use Rattle.ports_plain.specs.declared.change.Change.TheVariants.{RemoveFile}
 use Rattle.ports_plain.specs.declared.questions.Question.{Question}
 use Rattle.ports_plain.specs.declared.questions.Question.TheVariants.{Settled, OfFile, OfPort, OfIndex}
 use Rattle.ports_plain.specs.declared.files.FileQuestion.{FileQuestion}
@@ -18,16 +18,20 @@ use Rattle.ports_plain.specs.declared.depth.Depth.{Depth}
 use Rattle.ports_plain.specs.declared.depth.Depth.TheVariants.{Direct, All}
 use Rattle.ports_plain.specs.declared.index_questions.IndexQuestion.{IndexQuestion}
 use Rattle.ports_plain.specs.declared.index_questions.IndexQuestion.TheVariants as index
-use Rattle.ports_plain.specs.IndexRoutes.{list_reply, match_reply, get_faults, dependency_reply}
-use Rattle.ports_plain.specs.Plain.{PlainRequest, Answer, reply_alone, content_shown, answer}
-use Rattle.ports_plain.specs.Plain.{value_after, value_reply, variable_of, record_after, port_reply, port_of}
-use Rattle.ports_plain.specs.Replies.{no_file, removed}
-use Rattle.ports_plain.specs.Questions.{question_of}
+use Rattle.ports_plain.specs.IndexRoutes.{list_reply, match_reply, faults_reply, dependency_reply}
+use Rattle.ports_plain.specs.Requests.{Answer, reply_alone}
+use Rattle.ports_plain.specs.PortReplies.{value_after, value_reply, variable_of, record_after, port_reply, port_at_path}
+use Rattle.ports_plain.specs.Replies.{file_shown, no_file, removed}
 
 -- the file that a question is about
 abbrev pub file_asked : FileQuestion → List ℕ
 file_asked (Show name) = name
 file_asked (Remove name) = name
+
+-- the content of a file, if it is there
+abbrev pub content_shown : Option (List ℕ) → ReplyMessage
+content_shown (Some content) = file_shown content
+content_shown None = no_file
 
 -- the answer to a question about a file with this content, if it is there
 abbrev pub file_answer : FileQuestion → Option (List ℕ) → Answer
@@ -37,7 +41,7 @@ file_answer (Remove name) content = if is_some content then (removed, Some (Remo
 -- the reply to a question about a port
 abbrev pub port_reply_to : World → PortQuestion → ReplyMessage
 port_reply_to world (Variable asked) = variable_of world asked.name asked.path
-port_reply_to world (Record path) = port_of world path
+port_reply_to world (Record path) = port_at_path world path
 
 -- the same, after an evaluation of the port's makefile
 abbrev pub reply_after : PortQuestion → List ℕ → Result Evaluated Failed → ReplyMessage
@@ -48,7 +52,7 @@ reply_after (Record path) makefile outcome = port_reply path (record_after makef
 abbrev pub index_reply : World → IndexQuestion → ReplyMessage
 index_reply world (index.List conditions) = list_reply world conditions
 index_reply world (index.Match spec) = match_reply world spec
-index_reply world index.Faults = get_faults world
+index_reply world index.Faults = faults_reply world
 index_reply world (index.Dependencies direction asked) = dependency_reply world direction asked
 
 -- following dependencies this way, so far, takes those of all ports: but for those of one port itself
@@ -70,7 +74,3 @@ answer_to world (Settled prepared) = (prepared.reply, prepared.change)
 answer_to world (OfFile asked) = file_answer asked (get (files_in world) (file_asked asked))
 answer_to world (OfPort asked) = reply_alone (port_reply_to world asked)
 answer_to world (OfIndex asked) = reply_alone (index_reply world asked)
-
--- in every world the answer to a request is the answer to the question that it asks
-abbrev pub QuestionsHaveTheAnswers : Type 0
-QuestionsHaveTheAnswers = (world : World) (request : PlainRequest) → answer_to world (question_of request) ≡ answer world request

@@ -1,21 +1,18 @@
 -- The routes over all ports of a world: which packages they list, and which dependencies.
 use Rattle.std.specs.Prelude.{ℕ, if◌then◌else◌, ◌||◌, List, [], Option, Some, None, Result, Ok, Err, option_map}
 use Rattle.std.specs.Prelude.{codes}
-use Rattle.std.specs.Option.{option_map_or}
-use Rattle.std.specs.Result.{is_ok}
 use Rattle.std.specs.Str.{bytes_eq}
 use Rattle.mk_base.specs.FaultAt.{FaultAt}
 use Rattle.mk_paths.specs.World.{World}
 use Rattle.pkg_path.specs.Paths.{PathValue, port_path}
-use Rattle.pkg_spec.specs.Alternatives.{spec_of}
 use Rattle.port_rules.specs.Ports.{PortValue}
 use Rattle.port_deps.specs.Roots.{RootValue, RootEdgeValue}
 use Rattle.ports_index.specs.Index.{roots, edges}
-use Rattle.ports_query.specs.Conditions.{ConditionValue, query_of}
-use Rattle.ports_query.specs.Listing.{ListedValue, answer_of, admitted_of, root_named}
+use Rattle.ports_query.specs.Conditions.{ConditionValue}
+use Rattle.ports_query.specs.ListedPackages.{ListedValue, answer_of, admitted_of, root_named}
 use Rattle.ports_query.specs.Kinds.{kinds_of}
 use Rattle.ports_query.specs.Edges.{first_edges_of, edges_to_of}
-use Rattle.ports_query.specs.Reaching.{reached_of, reaching_of}
+use Rattle.ports_query.specs.Reach.{reached_of, reaching_of}
 use Rattle.ports_query.specs.declared.kinds.Kinds.{Kinds}
 use Rattle.serde_json.specs.Data.{Data}
 use Rattle.ports_http.specs.Messages.{ReplyMessage}
@@ -24,8 +21,8 @@ use Rattle.ports_plain.specs.declared.dependencies.Direction.TheVariants.{Depend
 use Rattle.ports_plain.specs.declared.dependencies.DependencyQuestion.{DependencyQuestion}
 use Rattle.ports_plain.specs.declared.depth.Depth.{Depth}
 use Rattle.ports_plain.specs.declared.depth.Depth.TheVariants.{Direct, All}
-use Rattle.ports_plain.specs.Parameters.{parameter, optional}
-use Rattle.ports_plain.specs.PathParameter.{path_in, reply_or_refusal}
+use Rattle.ports_plain.specs.Parameters.{optional}
+use Rattle.ports_plain.specs.PathParameter.{path_in}
 use Rattle.ports_plain.specs.Subpackages.{has_named}
 use Rattle.ports_plain.specs.Replies.{json_reply, refusal, bad_parameter, no_port, no_subpackage, faulty}
 use Rattle.ports_plain.specs.ListBodies.{packages_body, dependencies_body, dependents_body, reached_body, reaching_body, faults_body}
@@ -48,29 +45,13 @@ packages_reply packages = json_reply 200 (packages_body packages)
 abbrev pub list_reply : World → List ConditionValue → ReplyMessage
 list_reply world conditions = packages_reply (answer_of conditions (roots world))
 
--- the same, given the conditions that a text is, if it is a query
-abbrev pub list_by : World → Option (List ConditionValue) → ReplyMessage
-list_by world conditions = option_map_or (list_reply world) conditions bad_query
-
--- GET /v1/list?where=
-abbrev pub get_list : World → List ℕ → ReplyMessage
-get_list world query = option_map_or (λ text. list_by world (query_of text)) (optional (codes "where") query) bad_parameter
-
 -- the packages that a spec admits
 abbrev pub match_reply : World → List ℕ → ReplyMessage
 match_reply world spec = packages_reply (admitted_of spec (roots world))
 
--- the same, given a text that may be a spec
-abbrev pub match_by : World → List ℕ → ReplyMessage
-match_by world text = if is_ok (spec_of text) then match_reply world text else bad_spec
-
--- GET /v1/match?spec=
-abbrev pub get_match : World → List ℕ → ReplyMessage
-get_match world query = option_map_or (match_by world) (parameter (codes "spec") query) bad_parameter
-
--- GET /v1/faults
-abbrev pub get_faults : World → ReplyMessage
-get_faults world = json_reply 200 (faults_body (roots world))
+-- the faults of all makefiles
+abbrev pub faults_reply : World → ReplyMessage
+faults_reply world = json_reply 200 (faults_body (roots world))
 
 -- how far dependencies are followed: an empty text is `1`
 abbrev pub depth_of : List ℕ → Option Depth
@@ -96,8 +77,8 @@ question_of path (Some kind) None = Err bad_parameter
 question_of path None depth = Err bad_parameter
 
 -- the question of a query: ?path=&kind=&depth=
-abbrev pub question_in : List ℕ → Result DependencyQuestion ReplyMessage
-question_in query = question_of (path_in query) (optional (codes "kind") query) (optional (codes "depth") query)
+abbrev pub question_of_query : List ℕ → Result DependencyQuestion ReplyMessage
+question_of_query query = question_of (path_in query) (optional (codes "kind") query) (optional (codes "depth") query)
 
 -- what a port depends on: its own dependencies, or all ports that are reached over those that are met
 abbrev pub dependencies_at : List RootEdgeValue → PathValue → Kinds → Depth → Data
@@ -150,7 +131,3 @@ reply_to roots edges Dependents question = json_reply 200 (dependents_body_of ed
 -- the same over a world
 abbrev pub dependency_reply : World → Direction → DependencyQuestion → ReplyMessage
 dependency_reply world direction question = reply_to (roots world) (edges world) direction question
-
--- GET /v1/deps and GET /v1/rdeps
-abbrev pub get_dependencies : World → Direction → List ℕ → ReplyMessage
-get_dependencies world direction query = reply_or_refusal (dependency_reply world direction) (question_in query)

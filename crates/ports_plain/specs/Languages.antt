@@ -1,11 +1,12 @@
 -- Which requests may change the profile of a world.
 use Rattle.std.specs.Prelude.{◌≡◌, Bool, true, false, Option, Some}
 use Rattle.mk_paths.specs.World.{World, profile_of}
-use Rattle.ports_plain.specs.declared.routing.Route.{Route}
-use Rattle.ports_plain.specs.declared.routing.Route.TheVariants.{Profile as Language}
-use Rattle.ports_plain.specs.Plain.{PlainRequest, plain}
+use Rattle.ports_plain.specs.declared.routes.Route.{Route}
+use Rattle.ports_plain.specs.declared.routes.Route.TheVariants.{Profile as Language}
+use Rattle.ports_plain.specs.Requests.{PlainRequest}
+use Rattle.ports_plain.specs.Plain.{plain}
 use Rattle.ports_plain.specs.Routes.{route_of}
-use Rattle.ports_plain.specs.Target.{path_of as target_path}
+use Rattle.ports_plain.specs.Target.{path_of_target as target_path}
 
 -- the route is that of the profile
 abbrev pub is_of_profile : Option Route → Bool

@@ -2,15 +2,15 @@
 -- their names' bytes (RFC 8259).
 use Rattle.std.specs.Prelude.{ℕ, List, [], Option, Some, None, Result, Ok, Err, map, codes}
 use Rattle.std.specs.List.{filter_map}
-use Rattle.mk_base.specs.Faults.{number_of}
+use Rattle.mk_base.specs.Faults.{fault_number}
 use Rattle.mk_base.specs.FaultAt.{FaultAt}
 use Rattle.pkg_path.specs.Paths.{PathValue, canonical}
-use Rattle.port_rules.specs.Depends.{word_of}
+use Rattle.port_rules.specs.Depends.{word_of_kind}
 use Rattle.port_deps.specs.Edges.{EdgeValue}
 use Rattle.port_rules.specs.Ports.{PortValue}
 use Rattle.port_deps.specs.Roots.{RootValue, RootEdgeValue}
-use Rattle.port_deps.specs.Statuses.{word_of as status_word}
-use Rattle.ports_query.specs.Listing.{ListedValue}
+use Rattle.port_deps.specs.Statuses.{word_of_status as status_word}
+use Rattle.ports_query.specs.ListedPackages.{ListedValue}
 use Rattle.serde_json.specs.Data.{Data, string, number, unsigned, array, object, no_members, member}
 use Rattle.serde_json.specs.View.{items_of}
 use Rattle.ports_plain.specs.PortBody.{texts_body}
@@ -46,7 +46,7 @@ target_text (Some path) = canonical path
 abbrev pub dependency_body : EdgeValue → Data
 dependency_body edge =
     object (member (codes "item") (string edge.item)
-    (member (codes "kind") (string (word_of edge.kind))
+    (member (codes "kind") (string (word_of_kind edge.kind))
     (member (codes "status") (string (status_word edge.status))
     (member (codes "subpackage") (string edge.subpackage)
     (member (codes "target") (string (target_text edge.target)) no_members)))))
@@ -58,7 +58,7 @@ dependencies_body edges = list_body (codes "deps") (map (λ (edge : RootEdgeValu
 abbrev pub dependent_body : RootEdgeValue → Data
 dependent_body edge =
     object (member (codes "item") (string edge.edge.item)
-    (member (codes "kind") (string (word_of edge.edge.kind))
+    (member (codes "kind") (string (word_of_kind edge.edge.kind))
     (member (codes "path") (string edge.root)
     (member (codes "status") (string (status_word edge.edge.status))
     (member (codes "subpackage") (string edge.edge.subpackage) no_members)))))
@@ -80,7 +80,7 @@ reaching_body paths = object (member (codes "rdeps") (texts_body paths) no_membe
 -- a fault, and the path of the directory where it is met
 abbrev pub fault_at_body : List ℕ → FaultAt → Data
 fault_at_body path fault =
-    object (member (codes "kind") (number (unsigned (number_of fault.kind)))
+    object (member (codes "kind") (number (unsigned (fault_number fault.kind)))
     (member (codes "line") (number (unsigned fault.line))
     (member (codes "name") (string fault.name)
     (member (codes "path") (string path) no_members))))
@@ -90,8 +90,8 @@ abbrev pub fault_in : List ℕ → Result PortValue FaultAt → Option Data
 fault_in path (Ok port) = None
 fault_in path (Err fault) = Some (fault_at_body path fault)
 
-abbrev pub fault_at : RootValue → Option Data
-fault_at root = fault_in root.path root.state
+abbrev pub root_fault_body : RootValue → Option Data
+root_fault_body root = fault_in root.path root.state
 
 abbrev pub faults_body : List RootValue → Data
-faults_body roots = list_body (codes "faults") (filter_map fault_at roots)
+faults_body roots = list_body (codes "faults") (filter_map root_fault_body roots)

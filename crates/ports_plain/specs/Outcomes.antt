@@ -9,12 +9,12 @@ use Rattle.ports_index.specs.Known.{IsIndexOf}
 use Rattle.ports_index.specs.declared.known_index.KnownIndex.{KnownIndex}
 use Rattle.serde_json.specs.Data.{Data}
 use Rattle.serde_json.specs.Written.{compact_text}
-use Rattle.ports_plain.specs.declared.changing.Prepared.{Prepared}
+use Rattle.ports_plain.specs.declared.change.Prepared.{Prepared}
 use Rattle.ports_plain.specs.declared.dependencies.DependencyQuestion.{DependencyQuestion}
 use Rattle.ports_plain.specs.IndexRoutes.{dependencies_body_of}
 use Rattle.ports_plain.specs.ListBodies.{list_body}
-use Rattle.ports_plain.specs.Plain.{Answer}
-use Rattle.ports_plain.specs.Writing.{HasItems, HasMembers, Member, object_of}
+use Rattle.ports_plain.specs.Requests.{Answer}
+use Rattle.ports_plain.specs.JsonText.{HasItems, HasMembers, Member, object_of}
 
 -- where something is made, it is this
 abbrev pub IfMade : {A E : Type 0} → Result A E → A → Type 0

@@ -7,10 +7,10 @@ use Rattle.ports_plain.specs.Parameters as times
 use Rattle.ports_plain.specs.declared.parameters.Found.{Found}
 use Rattle.ports_plain.specs.declared.parameters.Found.TheVariants.{Never, Once, Often}
 
-abbrev pub found_seen : Found → Times
-found_seen Never = times.Never
-found_seen (Once value) = times.Once (cow_str_bytes value)
-found_seen Often = times.Often
+abbrev pub times_found : Found → Times
+times_found Never = times.Never
+times_found (Once value) = times.Once (cow_str_bytes value)
+times_found Often = times.Often
 
 -- where a function succeeds, it gives this value of a parameter, decoded, or none
 abbrev pub GivesParameter : {Z E : Type 0} → Result (Option (CowStr Z)) E → Option (List ℕ) → Type 0
@@ -18,4 +18,4 @@ GivesParameter result value = IfOk result (λ found. option_map cow_str_bytes fo
 
 -- where a function succeeds, it says how often a query has a parameter of this name, with its value
 abbrev pub SaysTimes : {E : Type 0} → Result Found E → List ℕ → List ℕ → Type 0
-SaysTimes result name query = IfOk result (λ found. found_seen found ≡ times.times (values_under name query))
+SaysTimes result name query = IfOk result (λ found. times_found found ≡ times.times (values_under name query))

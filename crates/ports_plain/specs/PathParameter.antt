@@ -19,8 +19,3 @@ path_of_parameter None = Err bad_parameter
 -- the package path that a query names
 abbrev pub path_in : List ℕ → Result PathValue ReplyMessage
 path_in query = path_of_parameter (parameter (codes "path") query)
-
--- the reply to what was read of a query, or the refusal
-abbrev pub reply_or_refusal : {A : Type 0} → (A → ReplyMessage) → Result A ReplyMessage → ReplyMessage
-reply_or_refusal reply (Ok value) = reply value
-reply_or_refusal reply (Err refused) = refused

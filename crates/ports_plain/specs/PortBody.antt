@@ -4,7 +4,7 @@ use Rattle.std.specs.Global.{Global}
 use Rattle.pkg_path.specs.Paths.{PathValue, port_path}
 use Rattle.pkg_name.specs.Name.{name_text}
 use Rattle.port_rules.specs.Packages.{PackageValue}
-use Rattle.port_rules.specs.Depends.{DependValue, word_of}
+use Rattle.port_rules.specs.Depends.{DependValue, word_of_kind}
 use Rattle.port_rules.specs.Ports.{PortValue}
 use Rattle.serde_json.specs.Data.{Data, string, array, object, no_members, member}
 use Rattle.serde_json.specs.View.{items_of}
@@ -28,7 +28,7 @@ package_body found =
 abbrev pub depend_body : DependValue → Data
 depend_body depend =
     object (member (codes "item") (string depend.item)
-    (member (codes "kind") (string (word_of depend.kind))
+    (member (codes "kind") (string (word_of_kind depend.kind))
     (member (codes "subpackage") (string depend.subpackage) no_members)))
 
 -- the port that a path names; the path's subpackage doesn't count

@@ -6,11 +6,11 @@ use Rattle.std.specs.Result.{is_ok}
 use Rattle.mk_paths.specs.FileName.{resolved}
 use Rattle.mk_paths.specs.declared.file_name.NameFault.{NameFault}
 use Rattle.pkg_spec.specs.Alternatives.{spec_of}
-use Rattle.ports_query.specs.Conditions.{ConditionValue, query_of}
+use Rattle.ports_query.specs.Conditions.{ConditionValue, query_conditions}
 use Rattle.ports_http.specs.declared.method.Method.{Method}
 use Rattle.ports_http.specs.declared.method.Method.TheVariants.{Get, Put, Delete}
 use Rattle.ports_http.specs.Messages.{ReplyMessage}
-use Rattle.ports_plain.specs.declared.changing.Change.TheVariants.{PutFile}
+use Rattle.ports_plain.specs.declared.change.Change.TheVariants.{PutFile}
 use Rattle.ports_plain.specs.declared.dependencies.Direction.{Direction}
 use Rattle.ports_plain.specs.declared.dependencies.Direction.TheVariants.{Dependencies, Dependents}
 use Rattle.ports_plain.specs.declared.questions.Question.{Question}
@@ -18,33 +18,34 @@ use Rattle.ports_plain.specs.declared.questions.Question.TheVariants.{Settled, O
 use Rattle.ports_plain.specs.declared.files.FileQuestion.TheVariants.{Show, Remove}
 use Rattle.ports_plain.specs.declared.port_questions.PortQuestion.TheVariants.{Variable, Record}
 use Rattle.ports_plain.specs.declared.index_questions.IndexQuestion.TheVariants as index
-use Rattle.ports_plain.specs.declared.routing.Route.{Route}
-use Rattle.ports_plain.specs.declared.routing.Route.TheVariants.{Deps, Faults, File, List as AllPackages, Match}
-use Rattle.ports_plain.specs.declared.routing.Route.TheVariants.{Path, Port, Profile as Language, Rdeps, Var}
-use Rattle.ports_plain.specs.IndexRoutes.{question_in, bad_query, bad_spec}
+use Rattle.ports_plain.specs.declared.routes.Route.{Route}
+use Rattle.ports_plain.specs.declared.routes.Route.TheVariants.{Deps, Faults, File, List as AllPackages, Match}
+use Rattle.ports_plain.specs.declared.routes.Route.TheVariants.{Path, Port, Profile as Language, Rdeps, Var}
+use Rattle.ports_plain.specs.IndexRoutes.{question_of_query, bad_query, bad_spec}
 use Rattle.ports_plain.specs.Parameters.{parameter, optional}
 use Rattle.ports_plain.specs.PathParameter.{path_in}
-use Rattle.ports_plain.specs.Plain.{PlainRequest, Answer, reply_alone, set_path, set_profile}
+use Rattle.ports_plain.specs.Requests.{PlainRequest, Answer, reply_alone}
+use Rattle.ports_plain.specs.SettingAnswers.{set_path, set_profile}
 use Rattle.ports_plain.specs.Replies.{no_route, not_allowed, bad_parameter, bad_name, stored}
 use Rattle.ports_plain.specs.Routes.{route_of}
-use Rattle.ports_plain.specs.Target.{path_of as target_path, query_of as query_of_target}
+use Rattle.ports_plain.specs.Target.{path_of_target as target_path, query_of as query_of_target}
 
 -- the answer is this one over every world
 abbrev pub settled : Answer → Question
 settled answer = Settled (record { reply = answer.0; change = answer.1 })
 
 -- it is this reply alone
-abbrev pub refused : ReplyMessage → Question
-refused reply = settled (reply_alone reply)
+abbrev pub refused_question : ReplyMessage → Question
+refused_question reply = settled (reply_alone reply)
 
 -- the question about what was read of a query, or the refusal
 abbrev pub question_or_refusal : {A : Type 0} → (A → Question) → Result A ReplyMessage → Question
 question_or_refusal question (Ok value) = question value
-question_or_refusal question (Err reply) = refused reply
+question_or_refusal question (Err reply) = refused_question reply
 
 -- the question about a parameter that is as it must be
 abbrev pub with_parameter : (List ℕ → Question) → Option (List ℕ) → Question
-with_parameter question text = option_map_or question text (refused bad_parameter)
+with_parameter question text = option_map_or question text (refused_question bad_parameter)
 
 -- GET, PUT and DELETE of the file of a name: whether it is stored doesn't depend on the world
 abbrev pub named_file_question : Method → List ℕ → List ℕ → Question
@@ -54,7 +55,7 @@ named_file_question Delete body name = OfFile (Remove name)
 
 abbrev pub resolved_question : Method → List ℕ → Result (List ℕ) NameFault → Question
 resolved_question method body (Ok name) = named_file_question method body name
-resolved_question method body (Err fault) = refused bad_name
+resolved_question method body (Err fault) = refused_question bad_name
 
 -- /v1/file?name=
 abbrev pub file_question : Method → List ℕ → Option (List ℕ) → Question
@@ -76,56 +77,56 @@ port_question query = question_or_refusal (λ path. OfPort (Record path)) (path_
 
 -- GET /v1/list?where=
 abbrev pub conditions_question : Option (List ConditionValue) → Question
-conditions_question conditions = option_map_or (λ known. OfIndex (index.List known)) conditions (refused bad_query)
+conditions_question conditions = option_map_or (λ known. OfIndex (index.List known)) conditions (refused_question bad_query)
 
 abbrev pub list_question : List ℕ → Question
-list_question query = with_parameter (λ text. conditions_question (query_of text)) (optional (codes "where") query)
+list_question query = with_parameter (λ text. conditions_question (query_conditions text)) (optional (codes "where") query)
 
 -- GET /v1/match?spec=
 abbrev pub spec_question : List ℕ → Question
-spec_question text = if is_ok (spec_of text) then OfIndex (index.Match text) else refused bad_spec
+spec_question text = if is_ok (spec_of text) then OfIndex (index.Match text) else refused_question bad_spec
 
 abbrev pub match_question : List ℕ → Question
 match_question query = with_parameter spec_question (parameter (codes "spec") query)
 
 -- GET /v1/deps and GET /v1/rdeps
 abbrev pub dependency_question : Direction → List ℕ → Question
-dependency_question direction query = question_or_refusal (λ asked. OfIndex (index.Dependencies direction asked)) (question_in query)
+dependency_question direction query = question_or_refusal (λ asked. OfIndex (index.Dependencies direction asked)) (question_of_query query)
 
 -- the question of a GET on a route, by the query; a file, the search path and the profile aren't asked for in this way
 abbrev pub get_question : List ℕ → Route → Question
 get_question query Deps = dependency_question Dependencies query
 get_question query Faults = OfIndex index.Faults
-get_question query File = refused (not_allowed File)
+get_question query File = refused_question (not_allowed File)
 get_question query AllPackages = list_question query
 get_question query Match = match_question query
-get_question query Path = refused (not_allowed Path)
+get_question query Path = refused_question (not_allowed Path)
 get_question query Port = port_question query
-get_question query Language = refused (not_allowed Language)
+get_question query Language = refused_question (not_allowed Language)
 get_question query Rdeps = dependency_question Dependents query
 get_question query Var = variable_question query
 
 -- the question on a route that is asked by a query, by the method
 abbrev pub query_question : List ℕ → Route → Method → Question
 query_question query route Get = get_question query route
-query_question query route Put = refused (not_allowed route)
-query_question query route Delete = refused (not_allowed route)
+query_question query route Put = refused_question (not_allowed route)
+query_question query route Delete = refused_question (not_allowed route)
 
 -- the question on the route of the search path, by the method
 abbrev pub path_question : List ℕ → Method → Question
 path_question body Put = settled (set_path body)
-path_question body Get = refused (not_allowed Path)
-path_question body Delete = refused (not_allowed Path)
+path_question body Get = refused_question (not_allowed Path)
+path_question body Delete = refused_question (not_allowed Path)
 
 -- the question on the route of the profile, by the method
 abbrev pub profile_question : List ℕ → Method → Question
 profile_question body Put = settled (set_profile body)
-profile_question body Get = refused (not_allowed Language)
-profile_question body Delete = refused (not_allowed Language)
+profile_question body Get = refused_question (not_allowed Language)
+profile_question body Delete = refused_question (not_allowed Language)
 
 -- the question on a route
 abbrev pub question_on_route : PlainRequest → Option Route → Question
-question_on_route request None = refused no_route
+question_on_route request None = refused_question no_route
 question_on_route request (Some File) = file_question_in request.method request.body (query_of_target request.target)
 question_on_route request (Some Path) = path_question request.body request.method
 question_on_route request (Some Language) = profile_question request.body request.method

@@ -1,18 +1,15 @@
 -- The replies of the service (RFC 9110, sections 8 and 15).
-use Rattle.std.specs.Prelude.{List, [], ◌∷◌, Option, Some, codes, ℕ}
-use Rattle.mk_base.specs.Faults.{number_of}
+use Rattle.std.specs.Prelude.{List, [], Option, Some, codes, ℕ}
+use Rattle.mk_base.specs.Faults.{fault_number}
 use Rattle.mk_base.specs.FaultAt.{FaultAt}
 use Rattle.mk_text.specs.declared.profile.Profile.{Profile}
 use Rattle.mk_text.specs.Profiles.{profile_number}
-use Rattle.ports_http.specs.declared.method.Method.{Method}
-use Rattle.ports_http.specs.declared.method.Method.TheVariants.{Get, Put, Delete}
 use Rattle.ports_http.specs.declared.reply.Content.TheVariants.{Json, Octets}
 use Rattle.ports_http.specs.Messages.{ReplyMessage}
 use Rattle.serde_json.specs.Data.{Data}
 use Rattle.serde_json.specs.Written.{compact_text}
-use Rattle.ports_plain.specs.declared.routing.Route.{Route}
-use Rattle.ports_plain.specs.declared.routing.Route.TheVariants.{Deps, Faults, File, List as AllPackages, Match}
-use Rattle.ports_plain.specs.declared.routing.Route.TheVariants.{Path, Port, Profile as Language, Rdeps, Var}
+use Rattle.ports_plain.specs.declared.routes.Route.{Route}
+use Rattle.ports_plain.specs.Routes.{methods_of}
 use Rattle.pkg_path.specs.Paths.{PathValue}
 use Rattle.port_rules.specs.Ports.{PortValue}
 use Rattle.ports_plain.specs.PortBody.{port_body}
@@ -29,19 +26,6 @@ refusal status word = json_reply status (error_body word)
 -- no such route
 abbrev pub no_route : ReplyMessage
 no_route = refusal 404 (codes "Route")
-
--- the methods of a route
-abbrev pub methods_of : Route → List Method
-methods_of Deps = Get ∷ []
-methods_of Faults = Get ∷ []
-methods_of File = Get ∷ Put ∷ Delete ∷ []
-methods_of AllPackages = Get ∷ []
-methods_of Match = Get ∷ []
-methods_of Path = Put ∷ []
-methods_of Port = Get ∷ []
-methods_of Language = Put ∷ []
-methods_of Rdeps = Get ∷ []
-methods_of Var = Get ∷ []
 
 -- the refusal of a method that the route doesn't have
 abbrev pub not_allowed : Route → ReplyMessage
@@ -76,12 +60,12 @@ abbrev pub no_subpackage : ReplyMessage
 no_subpackage = refusal 404 (codes "NoSubpackage")
 
 -- a file that isn't stored, since the tenant would have more than it may
-abbrev pub full : ReplyMessage
-full = refusal 409 (codes "Full")
+abbrev pub storage_full : ReplyMessage
+storage_full = refusal 409 (codes "Full")
 
 -- a makefile at fault
 abbrev pub faulty : FaultAt → ReplyMessage
-faulty fault = json_reply 422 (fault_body (number_of fault.kind) fault.line fault.name)
+faulty fault = json_reply 422 (fault_body (fault_number fault.kind) fault.line fault.name)
 
 -- the content of a file
 abbrev pub file_shown : List ℕ → ReplyMessage
@@ -104,8 +88,8 @@ abbrev pub profile_set : Profile → ReplyMessage
 profile_set profile = json_reply 200 (profile_body (profile_number profile))
 
 -- the value of a variable, or that it isn't defined
-abbrev pub variable : Option (List ℕ) → ReplyMessage
-variable value = json_reply 200 (variable_body value)
+abbrev pub variable_shown : Option (List ℕ) → ReplyMessage
+variable_shown value = json_reply 200 (variable_body value)
 
 -- what the port is that a path names
 abbrev pub port_shown : PathValue → PortValue → ReplyMessage

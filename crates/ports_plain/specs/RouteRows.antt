@@ -3,15 +3,15 @@ use Rattle.std.specs.Prelude.{◌≡◌, ℕ, List, [], map, Ok, None}
 use Rattle.matchit.specs.Rows.{RowsOf}
 use Rattle.matchit.specs.Router.{RouteOf, nearest}
 use Rattle.matchit.specs.Route.{Scan, parse_route}
-use Rattle.ports_plain.specs.declared.routing.Route.{Route}
+use Rattle.ports_plain.specs.declared.routes.Route.{Route}
 use Rattle.ports_plain.specs.Routes.{table}
 
 -- each path is a pattern without parameters
-abbrev pub row : List ℕ × Route → List ℕ × RouteOf Route
-row entry = (entry.0, record { pattern = entry.0; text = entry.0; names = []; value = entry.1 })
+abbrev pub route_row : List ℕ × Route → List ℕ × RouteOf Route
+route_row entry = (entry.0, record { pattern = entry.0; text = entry.0; names = []; value = entry.1 })
 
 abbrev pub rows : RowsOf (RouteOf Route)
-rows = map row table
+rows = map route_row table
 
 -- a path that reads as a pattern, with which no row conflicts
 abbrev pub IsFree : List ℕ → RowsOf (RouteOf Route) → Type 0

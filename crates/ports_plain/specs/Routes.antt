@@ -1,9 +1,11 @@
--- The routes of the service.
+-- The routes of the service, with their methods.
 use Rattle.std.specs.Prelude.{ℕ, if◌then◌else◌, List, [], ◌∷◌, Option, Some, None, codes}
 use Rattle.std.specs.Str.{bytes_eq}
-use Rattle.ports_plain.specs.declared.routing.Route.{Route}
-use Rattle.ports_plain.specs.declared.routing.Route.TheVariants.{Deps, Faults, File, List as AllPackages, Match}
-use Rattle.ports_plain.specs.declared.routing.Route.TheVariants.{Path, Port, Profile as Language, Rdeps, Var}
+use Rattle.ports_http.specs.declared.method.Method.{Method}
+use Rattle.ports_http.specs.declared.method.Method.TheVariants.{Get, Put, Delete}
+use Rattle.ports_plain.specs.declared.routes.Route.{Route}
+use Rattle.ports_plain.specs.declared.routes.Route.TheVariants.{Deps, Faults, File, List as AllPackages, Match}
+use Rattle.ports_plain.specs.declared.routes.Route.TheVariants.{Path, Port, Profile as Language, Rdeps, Var}
 
 -- what a table has under a path
 abbrev pub under : {A : Type 0} → List (List ℕ × A) → List ℕ → Option A
@@ -21,3 +23,16 @@ table =
 -- the route of a path, which is compared as it is written
 abbrev pub route_of : List ℕ → Option Route
 route_of path = under table path
+
+-- the methods of a route
+abbrev pub methods_of : Route → List Method
+methods_of Deps = Get ∷ []
+methods_of Faults = Get ∷ []
+methods_of File = Get ∷ Put ∷ Delete ∷ []
+methods_of AllPackages = Get ∷ []
+methods_of Match = Get ∷ []
+methods_of Path = Put ∷ []
+methods_of Port = Get ∷ []
+methods_of Language = Put ∷ []
+methods_of Rdeps = Get ∷ []
+methods_of Var = Get ∷ []

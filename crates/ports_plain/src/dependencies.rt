@@ -58,7 +58,7 @@ pub fn dependency_question(
 
 /// What a query asks about a path's dependencies, or the refusal.
 fn question_in(alloc: Global, query: &str) -> Result<Result<DependencyQuestion, Reply>, AllocError>
-    ensures { IfMade result (routes.question_in query.now) }
+    ensures { IfMade result (routes.question_of_query query.now) }
 {
     let kind = optional(alloc, query, "kind")?;
     let depth = optional(alloc, query, "depth")?;

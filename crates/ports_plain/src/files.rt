@@ -1,12 +1,12 @@
 //! The route of files.
 ghost use Rattle.std.specs.Prelude.{◌≡◌};
 ghost use Rattle.ports_plain.specs.Answers.{file_answer, file_asked};
-ghost use Rattle.ports_plain.specs.Plain.{reply_alone};
+ghost use Rattle.ports_plain.specs.Requests.{reply_alone};
 ghost use Rattle.ports_plain.specs.Questions as questions;
 ghost use Rattle.ports_plain.specs.Replies.{no_file as no_file_reply};
 ghost use Rattle.ports_plain.specs.Outcomes.{IfMade, Prepares};
 
-use crate::changing::{Change, Prepared};
+use crate::change::{Change, Prepared};
 use crate::parameters::parameter;
 use crate::questions::Question;
 use crate::replies::{file_shown, refusal, removed, stored};

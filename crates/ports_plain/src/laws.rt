@@ -1,18 +1,12 @@
 //! What holds of every answer, as functions that do nothing.
-ghost use Rattle.ports_plain.specs.Answers.{QuestionsHaveTheAnswers};
 ghost use Rattle.ports_plain.specs.Languages.{OthersKeepTheProfile};
 ghost use Rattle.ports_plain.specs.Plain.{NeverAnswers503};
-ghost use Rattle.ports_plain.specs.Resting.{RestsOnEachOnce};
-ghost use Rattle.ports_plain.specs.Spending.{ChecksNoMore, SpendsAllUnchecked, SpendsNoMore};
+ghost use Rattle.ports_plain.specs.AnswerCosts.{RestsOnEachOnce};
+ghost use Rattle.ports_plain.specs.Spent.{ChecksNoMore, SpendsAllUnchecked, SpendsNoMore};
 
 /// The plain service never answers 503. A service over many tenants answers that if it fails.
 pub fn never_answers_503()
     ensures { NeverAnswers503 }
-{}
-
-/// In every world the answer to a request is the answer to the question that it asks.
-pub fn questions_have_the_answers()
-    ensures { QuestionsHaveTheAnswers }
 {}
 
 /// What is spent for a question is never more units than it costs, and at most 1,028 answers are checked for each

@@ -2,38 +2,37 @@
 //! file, the evaluation of a makefile, or the index. It knows nothing of connections, queues, sharing or suspension.
 #![tactic(auto)]
 
-mod answering;
 mod bodies;
-mod changing;
+mod change;
 mod dependencies;
 mod depth;
 mod files;
 mod index_questions;
+mod json_text;
 mod laws;
 mod list_bodies;
 mod lists;
 mod parameters;
 mod paths;
+mod plain;
 mod port_bodies;
 mod port_questions;
 mod profiles;
 mod questions;
 mod replies;
-mod routing;
+mod routes;
+mod spaces;
 mod target;
-mod trimming;
-mod writing;
 
-pub use answering::Plain;
-pub use changing::{Change, Prepared};
+pub use change::{Change, Prepared};
 pub use dependencies::{DependencyQuestion, Direction};
 pub use depth::Depth;
 pub use files::FileQuestion;
 pub use index_questions::IndexQuestion;
 pub use laws::{
-    never_answers_503, others_keep_the_profile, questions_have_the_answers, rests_on_each_once,
-    spending_is_bounded,
+    never_answers_503, others_keep_the_profile, rests_on_each_once, spending_is_bounded,
 };
+pub use plain::Plain;
 pub use port_questions::{PortQuestion, VariableQuestion, no_port};
 pub use questions::Question;
 pub use replies::full;

@@ -3,11 +3,11 @@ ghost use Rattle.std.specs.Prelude.{◌≡◌, OnOk, map, string_bytes, option_t
 ghost use Rattle.std.specs.Option.{option_copied};
 ghost use Rattle.ports_query.specs.Edges.{edges_lent};
 ghost use Rattle.ports_plain.specs.ListBodies as bodies;
-ghost use Rattle.ports_plain.specs.Writing.{Adds, AddsItems};
+ghost use Rattle.ports_plain.specs.JsonText.{AddsValue, AddsItems};
 ghost use Rattle.ports_plain.specs.Outcomes.{IfTextMade, WritesJson};
 
-use crate::writing::Scalar::{Number, Text};
-use crate::writing::{begin_list, end_list, write_object};
+use crate::json_text::Scalar::{Number, Text};
+use crate::json_text::{begin_list, end_list, write_object};
 use json::Writer;
 use mk_base::Fault;
 use pkg_path::PkgPath;
@@ -27,7 +27,7 @@ pub fn packages(alloc: Global, packages: &[Listed<'_>]) -> Result<Vec<u8>, Alloc
 }
 
 fn listed(alloc: Global, out: &mut Writer, one: &Listed<'_>) -> Result<(), AllocError>
-    ensures { OnOk result (Adds out.old out.new (bodies.listed_body one.now)) }
+    ensures { OnOk result (AddsValue out.old out.new (bodies.listed_body one.now)) }
 {
     let name = one.name().text(alloc)?;
     listed_as(out, name.as_str(), one.path(), one.subpackage())
@@ -40,7 +40,7 @@ fn listed_as<'a>(
     path: &'a str,
     subpackage: &'a str,
 ) -> Result<(), AllocError>
-    ensures { OnOk result (Adds out.old out.new (bodies.listing name.now path.now subpackage.now)) }
+    ensures { OnOk result (AddsValue out.old out.new (bodies.listing name.now path.now subpackage.now)) }
 {
     write_object(
         out,
@@ -64,7 +64,7 @@ pub fn dependencies(alloc: Global, edges: &[&RootEdge]) -> Result<Vec<u8>, Alloc
 }
 
 fn dependency(alloc: Global, out: &mut Writer, edge: &Edge) -> Result<(), AllocError>
-    ensures { OnOk result (Adds out.old out.new (bodies.dependency_body edge.now)) }
+    ensures { OnOk result (AddsValue out.old out.new (bodies.dependency_body edge.now)) }
 {
     let target = target_text(alloc, edge.target())?;
     dependency_on(out, edge, target.as_str())
@@ -73,7 +73,7 @@ fn dependency(alloc: Global, out: &mut Writer, edge: &Edge) -> Result<(), AllocE
 /// A dependency, given the path that its item names.
 fn dependency_on<'a>(out: &mut Writer, edge: &'a Edge, target: &'a str) -> Result<(), AllocError>
     requires { target.now ≡ bodies.target_text edge.now.target }
-    ensures { OnOk result (Adds out.old out.new (bodies.dependency_body edge.now)) }
+    ensures { OnOk result (AddsValue out.old out.new (bodies.dependency_body edge.now)) }
 {
     write_object(
         out,
@@ -110,7 +110,7 @@ pub fn dependents(alloc: Global, edges: &[&RootEdge]) -> Result<Vec<u8>, AllocEr
 }
 
 fn dependent<'a>(out: &mut Writer, root: &'a str, edge: &'a Edge) -> Result<(), AllocError>
-    ensures { OnOk result (Adds out.old out.new (bodies.dependent_of root.now edge.now)) }
+    ensures { OnOk result (AddsValue out.old out.new (bodies.dependent_of root.now edge.now)) }
 {
     write_object(
         out,
@@ -162,7 +162,7 @@ pub fn faults(alloc: Global, roots: &[Root<'_>]) -> Result<Vec<u8>, AllocError>
 
 /// Writes the fault of a root, if it has one.
 fn add_fault(out: &mut Writer, root: &Root<'_>) -> Result<(), AllocError>
-    ensures { OnOk result (AddsItems out.old out.new (option_to_list (bodies.fault_at root.now))) }
+    ensures { OnOk result (AddsItems out.old out.new (option_to_list (bodies.root_fault_body root.now))) }
 {
     match root.state() {
         Ok(_port) => Ok(()),
@@ -171,7 +171,7 @@ fn add_fault(out: &mut Writer, root: &Root<'_>) -> Result<(), AllocError>
 }
 
 fn fault_at<'a>(out: &mut Writer, path: &'a str, fault: &'a Fault) -> Result<(), AllocError>
-    ensures { OnOk result (Adds out.old out.new (bodies.fault_at_body path.now fault.now)) }
+    ensures { OnOk result (AddsValue out.old out.new (bodies.fault_at_body path.now fault.now)) }
 {
     write_object(
         out,

@@ -2,7 +2,7 @@
 ghost use Rattle.std.specs.Prelude.{◌≡◌};
 ghost use Rattle.ports_plain.specs.IndexRoutes as routes;
 ghost use Rattle.ports_plain.specs.Questions as questions;
-ghost use Rattle.ports_query.specs.Listing.{admits_one};
+ghost use Rattle.ports_query.specs.ListedPackages.{admits_one};
 ghost use Rattle.ports_plain.specs.Outcomes.{IfMade, RepliesOver};
 
 use crate::index_questions::IndexQuestion;
@@ -85,7 +85,7 @@ fn packages_reply(alloc: Global, packages: &[Listed<'_>]) -> Result<Reply, Alloc
 
 /// The reply that lists the faults of ports and lists. It fails only if memory runs out.
 pub fn faults_reply(alloc: Global, index: &KnownIndex) -> Result<Reply, AllocError>
-    ensures { RepliesOver index.now result (λ world. routes.get_faults world) }
+    ensures { RepliesOver index.now result (λ world. routes.faults_reply world) }
 {
     let roots = index.roots(alloc)?;
     let body = list_bodies::faults(alloc, &roots)?;

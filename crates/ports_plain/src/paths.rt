@@ -1,15 +1,16 @@
 //! The route of the search path.
-ghost use Rattle.ports_plain.specs.Plain.{set_path as set_path_of, set_trees as set_trees_of, reply_alone};
+ghost use Rattle.ports_plain.specs.SettingAnswers.{set_path as set_path_of, set_trees as set_trees_of};
+ghost use Rattle.ports_plain.specs.Requests.{reply_alone};
 ghost use Rattle.ports_plain.specs.Questions as questions;
 ghost use Rattle.ports_plain.specs.Replies.{bad_path as bad_path_reply};
 ghost use Rattle.mk_paths.specs.SearchPath.{search_path};
 ghost use Rattle.ports_plain.specs.Outcomes.{IfMade, Prepares};
 
-use crate::changing::{Change, Prepared};
+use crate::change::{Change, Prepared};
 use crate::questions::Question;
 use crate::replies::{not_allowed, path_set, refusal};
-use crate::routing::Route;
-use crate::trimming::trimmed;
+use crate::routes::Route;
+use crate::spaces::trimmed;
 use mk_paths::{PathFault, SearchPath};
 use ports_http::{Method, StatusCode};
 use std::alloc::{AllocError, Global};

@@ -3,11 +3,11 @@ ghost use Rattle.std.specs.Prelude.{◌≡◌, OnOk, codes};
 ghost use Rattle.pkg_name.specs.Name.{name_text};
 ghost use Rattle.serde_json.specs.Data.{string};
 ghost use Rattle.ports_plain.specs.PortBody as bodies;
-ghost use Rattle.ports_plain.specs.Writing.{Adds, AddsList, AddsMember};
+ghost use Rattle.ports_plain.specs.JsonText.{AddsValue, AddsList, AddsMember};
 ghost use Rattle.ports_plain.specs.Outcomes.{WritesJson};
 
-use crate::writing::Scalar::Text;
-use crate::writing::{begin_members, end_members, write_object};
+use crate::json_text::Scalar::Text;
+use crate::json_text::{begin_members, end_members, write_object};
 use json::Writer;
 use pkg_path::PkgPath;
 use port_rules::{Depend, Package, PortRecord};
@@ -65,7 +65,7 @@ fn write_packages(alloc: Global, out: &mut Writer, packages: &[Package]) -> Resu
 }
 
 fn write_package(alloc: Global, out: &mut Writer, one: &Package) -> Result<(), AllocError>
-    ensures { OnOk result (Adds out.old out.new (bodies.package_body one.now)) }
+    ensures { OnOk result (AddsValue out.old out.new (bodies.package_body one.now)) }
 {
     let name = one.name().text(alloc)?;
     write_named(out, one, name.as_str())
@@ -74,7 +74,7 @@ fn write_package(alloc: Global, out: &mut Writer, one: &Package) -> Result<(), A
 /// Writes a package, given its full name.
 fn write_named<'a>(out: &mut Writer, one: &'a Package, name: &'a str) -> Result<(), AllocError>
     requires { name.now ≡ name_text one.now.name }
-    ensures { OnOk result (Adds out.old out.new (bodies.package_body one.now)) }
+    ensures { OnOk result (AddsValue out.old out.new (bodies.package_body one.now)) }
 {
     write_object(
         out,
@@ -99,7 +99,7 @@ fn write_depends(out: &mut Writer, depends: &[Depend]) -> Result<(), AllocError>
 }
 
 fn write_depend(out: &mut Writer, one: &Depend) -> Result<(), AllocError>
-    ensures { OnOk result (Adds out.old out.new (bodies.depend_body one.now)) }
+    ensures { OnOk result (AddsValue out.old out.new (bodies.depend_body one.now)) }
 {
     write_object(
         out,

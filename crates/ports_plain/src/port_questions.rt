@@ -2,10 +2,10 @@
 ghost use Rattle.std.specs.Prelude.{◌≡◌, Ok, string_bytes};
 ghost use Rattle.mk_eval.specs.declared.outcome.Kind.{Kind};
 ghost use Rattle.ports_plain.specs.Answers.{reply_after};
-ghost use Rattle.ports_plain.specs.Plain as plain;
+ghost use Rattle.ports_plain.specs.PortReplies as replies;
 ghost use Rattle.ports_plain.specs.Questions as questions;
 ghost use Rattle.ports_plain.specs.Replies.{no_port as no_port_reply};
-ghost use Rattle.ports_plain.specs.Resting as resting;
+ghost use Rattle.ports_plain.specs.AnswerCosts as costs;
 ghost use Rattle.ports_plain.specs.Subpackages.{has_named as has_named_in};
 ghost use Rattle.ports_plain.specs.Outcomes.{IfMade, TellsCost, TellsReply};
 
@@ -63,7 +63,7 @@ pub fn port_question(alloc: Global, query: &str) -> Result<Question, AllocError>
 impl PortQuestion {
     /// The path of the port.
     pub fn path(&self) -> &PkgPath
-        ensures { result.now ≡ resting.path_asked self.now }
+        ensures { result.now ≡ costs.path_asked self.now }
     {
         match self {
             PortQuestion::Variable(asked) => asked.path(),
@@ -80,7 +80,7 @@ impl PortQuestion {
         makefile: &Name,
     ) -> Result<(Reply, u64), AllocError>
         ensures reply { TellsReply result (reply_after self.now makefile.now outcome.now) }
-        ensures cost { TellsCost result (resting.cost_after self.now makefile.now outcome.now) }
+        ensures cost { TellsCost result (costs.cost_after self.now makefile.now outcome.now) }
     {
         let evaluated = match outcome {
             Ok(evaluated) => evaluated,
@@ -107,8 +107,8 @@ fn value_reply(
     makefile: &Name,
     name: &str,
 ) -> Result<(Reply, u64), AllocError>
-    ensures reply { TellsReply result (plain.value_told evaluated.now makefile.now name.now) }
-    ensures cost { TellsCost result (resting.told_value_cost evaluated.now makefile.now name.now) }
+    ensures reply { TellsReply result (replies.value_told evaluated.now makefile.now name.now) }
+    ensures cost { TellsCost result (costs.told_value_cost evaluated.now makefile.now name.now) }
 {
     let (reply, more) = match value(alloc, evaluated, makefile, name) {
         Ok(Some(known)) => (variable(alloc, Some(known.text()))?, known.cost()),
@@ -126,8 +126,8 @@ fn record_reply(
     makefile: &Name,
     path: &PkgPath,
 ) -> Result<(Reply, u64), AllocError>
-    ensures reply { TellsReply result (plain.record_told evaluated.now makefile.now path.now) }
-    ensures cost { TellsCost result (resting.record_cost_after makefile.now (Ok evaluated.now)) }
+    ensures reply { TellsReply result (replies.record_told evaluated.now makefile.now path.now) }
+    ensures cost { TellsCost result (costs.record_cost_after makefile.now (Ok evaluated.now)) }
 {
     match evaluated.kind {
         Kind::Port => described(alloc, evaluated, makefile, path),
@@ -142,8 +142,8 @@ fn described(
     makefile: &Name,
     path: &PkgPath,
 ) -> Result<(Reply, u64), AllocError>
-    ensures reply { TellsReply result (plain.described evaluated.now makefile.now path.now) }
-    ensures cost { TellsCost result (resting.described_cost evaluated.now makefile.now) }
+    ensures reply { TellsReply result (replies.described evaluated.now makefile.now path.now) }
+    ensures cost { TellsCost result (costs.described_cost evaluated.now makefile.now) }
 {
     let (reply, more) = match record(alloc, evaluated, makefile) {
         Ok(recorded) => (port_reply(alloc, path, &recorded.port)?, recorded.cost),
@@ -155,7 +155,7 @@ fn described(
 
 /// The reply with a port, which must have the subpackage, if its path names one.
 fn port_reply(alloc: Global, path: &PkgPath, found: &PortRecord) -> Result<Reply, AllocError>
-    ensures { IfMade result (plain.port_told path.now found.now) }
+    ensures { IfMade result (replies.port_told path.now found.now) }
 {
     if has_named(path, found) {
         port(alloc, path, found)

@@ -1,14 +1,14 @@
 //! The route of the profile.
 ghost use Rattle.std.specs.Prelude.{◌≡◌};
-ghost use Rattle.ports_plain.specs.Plain.{profile_named, set_profile as set_profile_of};
+ghost use Rattle.ports_plain.specs.SettingAnswers.{profile_named, set_profile as set_profile_of};
 ghost use Rattle.ports_plain.specs.Questions as questions;
 ghost use Rattle.ports_plain.specs.Outcomes.{IfMade, Prepares};
 
-use crate::changing::{Change, Prepared};
+use crate::change::{Change, Prepared};
 use crate::questions::Question;
 use crate::replies::{not_allowed, profile_set, refusal};
-use crate::routing::Route;
-use crate::trimming::trimmed;
+use crate::routes::Route;
+use crate::spaces::trimmed;
 use mk_text::Profile;
 use ports_http::{Method, StatusCode};
 use std::alloc::{AllocError, Global};

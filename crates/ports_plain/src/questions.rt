@@ -4,7 +4,7 @@ ghost use Rattle.ports_plain.specs.Questions as questions;
 ghost use Rattle.ports_plain.specs.Replies.{refusal as refusal_of};
 ghost use Rattle.ports_plain.specs.Outcomes.{IfMade};
 
-use crate::changing::Prepared;
+use crate::change::Prepared;
 use crate::files::FileQuestion;
 use crate::index_questions::IndexQuestion;
 use crate::port_questions::PortQuestion;
@@ -29,7 +29,7 @@ pub enum Question {
 impl Question {
     /// What is answered by this reply alone, over every world.
     pub(crate) fn settled(reply: Reply) -> Question
-        ensures { result ≡ questions.refused reply }
+        ensures { result ≡ questions.refused_question reply }
     {
         Question::Settled(Prepared::reply_alone(reply))
     }
@@ -40,7 +40,7 @@ impl Question {
         status: StatusCode,
         word: &str,
     ) -> Result<Question, AllocError>
-        ensures { IfMade result (questions.refused (refusal_of status word.now)) }
+        ensures { IfMade result (questions.refused_question (refusal_of status word.now)) }
     {
         Ok(Question::settled(refusal(alloc, status, word)?))
     }

@@ -4,19 +4,19 @@ ghost use Rattle.std.specs.Option.{option_copied};
 ghost use Rattle.serde_json.specs.View.{view};
 ghost use Rattle.serde_json.specs.Written.{has_float};
 ghost use Rattle.ports_plain.specs.Replies.{json_reply as json_reply_of, refusal as refusal_of};
-ghost use Rattle.ports_plain.specs.Replies.{not_allowed as not_allowed_on, methods_of, full as full_reply};
+ghost use Rattle.ports_plain.specs.Replies.{not_allowed as not_allowed_on, storage_full as full_reply};
 ghost use Rattle.ports_plain.specs.Replies.{faulty as faulty_at, file_shown as file_shown_as, stored as stored_reply};
 ghost use Rattle.ports_plain.specs.Replies.{removed as removed_reply, path_set as path_set_to};
-ghost use Rattle.ports_plain.specs.Replies.{profile_set as profile_set_to, variable as variable_reply, port_shown};
+ghost use Rattle.ports_plain.specs.Replies.{profile_set as profile_set_to, variable_shown as variable_reply, port_shown};
 ghost use Rattle.ports_plain.specs.Outcomes.{IfMade};
 
-use crate::routing::Route;
+use crate::routes::Route;
 use crate::{bodies, port_bodies};
 use mk_base::Fault;
 use mk_text::Profile;
 use pkg_path::PkgPath;
 use port_rules::PortRecord;
-use ports_http::{Content, Method, Reply, StatusCode};
+use ports_http::{Content, Reply, StatusCode};
 use serde_json::Value;
 use std::alloc::{AllocError, Global};
 
@@ -37,23 +37,12 @@ pub fn refusal(alloc: Global, status: StatusCode, word: &str) -> Result<Reply, A
     json_reply(alloc, status, &body)
 }
 
-/// The methods of a route.
-fn methods_of_route(route: Route) -> &'static [Method]
-    ensures { result.now ≡ methods_of route }
-{
-    match route {
-        Route::File => &[Method::Get, Method::Put, Method::Delete],
-        Route::Path | Route::Profile => &[Method::Put],
-        _ => &[Method::Get],
-    }
-}
-
 /// The refusal of a method that the route doesn't have, with the methods that it has. It fails only if memory runs out.
 pub fn not_allowed(alloc: Global, route: Route) -> Result<Reply, AllocError>
     ensures { IfMade result (not_allowed_on route) }
 {
     let reply = refusal(alloc, StatusCode::METHOD_NOT_ALLOWED, "Method")?;
-    Ok(reply.with_allow(methods_of_route(route)))
+    Ok(reply.with_allow(route.methods()))
 }
 
 /// The reply to a PUT of a file that would leave its tenant with more than 2,000 files, or with more than

@@ -1,6 +1,6 @@
 //! The path and the query of a request's target.
 ghost use Rattle.std.specs.Prelude.{◌≡◌};
-ghost use Rattle.ports_plain.specs.Target.{local_part, path_of, query_of};
+ghost use Rattle.ports_plain.specs.Target.{local_part, path_of_target, query_of};
 
 /// The target without scheme and host.
 pub fn without_host(target: &str) -> &str
@@ -18,7 +18,7 @@ pub fn without_host(target: &str) -> &str
 /// The path, which ends at the first question mark, and the query after that mark. Without a mark the query
 /// is empty.
 pub fn path_and_query(target: &str) -> (&str, &str)
-    ensures path { result.0.now ≡ path_of target.now }
+    ensures path { result.0.now ≡ path_of_target target.now }
     ensures query { result.1.now ≡ query_of target.now }
 {
     let written = without_host(target);

@@ -13,7 +13,7 @@ use Rattle.ports_core.specs.declared.history.ReplayFault.{ReplayFault}
 use Rattle.ports_core.specs.declared.history.ReplayFault.TheVariants as run
 use Rattle.ports_core.specs.declared.service.NewFault.{NewFault}
 use Rattle.ports_core.specs.declared.service.NewFault.TheVariants as new
-use Rattle.ports_core.specs.Replays.{IsRun, TellsPlainly, ConversesOnEach, StopsAt, EndsEarly}
+use Rattle.ports_core.specs.Replays.{IsRun, TellsPlainly, ConversesOnEach, StopsAtEvent, EndsEarly}
 use Rattle.ports_core.specs.State.{State}
 use Rattle.ports_script.specs.declared.script.Script.{Script}
 use Rattle.ports_script.specs.declared.script.ScriptFault.{ScriptFault}
@@ -21,10 +21,10 @@ use Rattle.ports_script.specs.declared.failure.Failure.{Failure}
 use Rattle.ports_script.specs.declared.failure.Failure.TheVariants as failure
 use Rattle.ports_script.specs.declared.failure.Failure.TheVariants.{BadKey, BadEvent, CannotListen, CannotWrite, Store, Memory}
 use Rattle.ports_script.specs.Scripts.{numbered, ReadsScript, FailsToRead}
-use Rattle.ports_script.specs.Printing.{transcript}
+use Rattle.ports_script.specs.Transcript.{transcript}
 use Rattle.ports_core.specs.Keys.{is_fit}
-use Rattle.ports_program.specs.Running.{Streams, HappensWhole, HappensUpTo, PrintsWhole, PrintsUpTo, EventsEnd, Completes, Ends, FailsToPrint}
-use Rattle.ports_program.specs.Reporting.{PrintsRun, FailsAfter}
+use Rattle.ports_program.specs.ScriptRun.{Streams, HappensWhole, HappensUpTo, PrintsWhole, PrintsUpTo, EventsEnd, Completes, Ends, FailsToPrint}
+use Rattle.ports_program.specs.RunReport.{PrintsRun, FailsAfter}
 use Rattle.ports_script.specs.Failures.{script_failure, new_failure}
 
 pub Keeps-same : (known : Option (List ℕ)) → Keeps known known
@@ -60,7 +60,7 @@ done_run config script held holds (Ok x) (Ok done) events e run plainly converse
 
 -- the event of a line wasn't allowed, and those before it are printed
 pub prints_up_to : {W : Type 0} (config : Config) (script : Script) (held holds : Option (List ℕ)) (index : ℕ) (done : Transcript W) → length script.lines.items ≡ length script.events.items
-    → StopsAt config script.events.items index done.steps.items done.service → Appends held holds (transcript (numbered script) done.steps.items) → PrintsUpTo config script (slice_index script.lines.items index) held holds
+    → StopsAtEvent config script.events.items index done.steps.items done.service → Appends held holds (transcript (numbered script) done.steps.items) → PrintsUpTo config script (slice_index script.lines.items index) held holds
 prints_up_to config script held holds index done paired stops appends =
     let event = slice_get_within script.events.items index _ stops.3.1 in
     let within : index < length script.lines.items = omega (arith, paired, event) in
@@ -86,10 +86,10 @@ failed_run config script held holds (Ok x) ran events e fit paired run plainly c
 failed_run config script held holds (Err failure) (Ok done) events e fit paired run plainly converses early h =
     events_unprinted config script held holds done.steps.items done.service failure (inl (happens config script done.steps.items done.service events e run plainly converses)) h
 failed_run config script held holds (Err failure) (Err (run.NotAllowed index done)) events e fit paired run plainly converses early (inl h) =
-    let stops = subst (λ (ran : List Event). StopsAt config ran index done.steps.items done.service) e early in
+    let stops = subst (λ (ran : List Event). StopsAtEvent config ran index done.steps.items done.service) e early in
     events_unprinted config script held holds done.steps.items done.service failure (inr (index, stops)) h
 failed_run config script held holds (Err failure) (Err (run.NotAllowed index done)) events e fit paired run plainly converses early (inr (is, appends)) =
-    let stops = subst (λ (ran : List Event). StopsAt config ran index done.steps.items done.service) e early in
+    let stops = subst (λ (ran : List Event). StopsAtEvent config ran index done.steps.items done.service) e early in
     subst (EventsEnd config script held holds) (sym is) (prints_up_to config script held holds index done paired stops appends)
 failed_run {W} config script held holds (Err failure) (Err (run.New why)) events e fit paired run plainly converses early (is, kept) =
     subst (EventsEnd config script held holds) (sym is) (unbegun config script held holds why fit (unfit_only W config events why early) kept)

@@ -7,7 +7,7 @@ use Rattle.ports_serve.specs.declared.listen.ListenFault.{ListenFault}
 use Rattle.ports_serve.specs.declared.listen.ListenFault.TheVariants as faults
 use Rattle.ports_script.specs.declared.failure.Failure.{Failure}
 use Rattle.ports_program.specs.declared.command_line.Serving.{Serving}
-use Rattle.ports_program.specs.Serving.{listen_failure, EndsServing}
+use Rattle.ports_program.specs.ServiceRun.{listen_failure, EndsServing}
 use Rattle.ports_program.proofs.RunFacts.{Keeps-same}
 
 no_wire : {W : Type 0} (ListensOn : ℕ → W → Type 0) (serving : Serving) (held : Option (List ℕ)) → is_fit serving.config ≡ true → (fault : ListenFault)

@@ -20,10 +20,10 @@ use Rattle.ports_program.specs.declared.command_line.Invocation.{Invocation}
 use Rattle.ports_program.specs.declared.command_line.Invocation.TheVariants.{Replay, Serve}
 use Rattle.ports_program.specs.declared.command_line.Serving.{Serving}
 use Rattle.ports_script.specs.declared.failure.Failure.TheVariants.{CannotWrite, Memory}
-use Rattle.ports_program.specs.Running.{Streams, Finishes}
-use Rattle.ports_script.specs.Writing.{AppendsUpTo}
+use Rattle.ports_program.specs.ScriptRun.{Streams, Finishes}
+use Rattle.ports_script.specs.Output.{AppendsUpTo}
 use Rattle.ports_script.specs.Failures.{failure_text}
-use Rattle.ports_program.specs.Serving.{FinishesServing}
+use Rattle.ports_program.specs.ServiceRun.{FinishesServing}
 use Rattle.refusals.specs.Refused.{refused}
 
 -- `--parses N` and `--evals N`
@@ -94,8 +94,8 @@ number_or default greatest name given =
     unwrap_or (option_and_then (number_up_to greatest) (one_of name given)) default
 
 -- what is given to a subcommand asks for these keys, in their order, and these sizes
-abbrev pub Gives : List Row → Config → Type 0
-Gives given config =
+abbrev pub GivesConfig : List Row → Config → Type 0
+GivesConfig given config =
     (key_texts config.keys.items ≡ unwrap_or (all_of (codes "keys") given) [])
     × (config.parses ≡ number_or 256 4294967295 (codes "parses") given)
     × (config.evals ≡ number_or 1024 4294967295 (codes "evals") given)
@@ -106,7 +106,7 @@ abbrev pub GivesServing : List Row → Serving → Type 0
 GivesServing given serving =
     (serving.port ≡ number_or 1 65535 (codes "port") given)
     × (serving.rounds ≡ number_or 1 4294967295 (codes "turns") given)
-    × Gives given serving.config
+    × GivesConfig given serving.config
 
 -- what is given to `serve` asks for a service for clients, and for no replay
 abbrev pub AsksToServe : List Row → Invocation → Type 0
@@ -116,7 +116,7 @@ AsksToServe given (Replay config) = ⊥
 -- what is given to `replay` asks for a replay
 abbrev pub AsksToReplay : List Row → Invocation → Type 0
 AsksToReplay given (Serve serving) = ⊥
-AsksToReplay given (Replay config) = Gives given config
+AsksToReplay given (Replay config) = GivesConfig given config
 
 -- what a subcommand and what is given to it ask for; it is a fault of usage to name none, or another one
 -- than `serve` and `replay`

@@ -1,4 +1,4 @@
-pub mod Running
-pub mod Serving
+pub mod ScriptRun
+pub mod ServiceRun
 pub mod CommandLine
-pub mod Reporting
+pub mod RunReport

@@ -1,7 +1,7 @@
 //! The command line.
 ghost use Rattle.std.specs.Prelude.{◌≡◌, IfOk, map, false, string_bytes};
 ghost use Rattle.clap.specs.Words.{FailsBy, app_of, fault_of, found_of, rows_of, rule_of};
-ghost use Rattle.ports_program.specs.CommandLine.{AsksFor, Gives, GivesServing, keys_argument, port_argument, portsd};
+ghost use Rattle.ports_program.specs.CommandLine.{AsksFor, GivesConfig, GivesServing, keys_argument, port_argument, portsd};
 ghost use Rattle.ports_program.specs.CommandLine.{replay, serve, size_argument, turns_argument};
 
 use clap::{Arg, ArgAction, ArgMatches, Command, Error};
@@ -76,7 +76,7 @@ fn serving_given(alloc: Global, given: &ArgMatches<'_>) -> Result<Serving, Alloc
 
 /// The config that is given to a subcommand.
 fn config_given(alloc: Global, given: &ArgMatches<'_>) -> Result<Config, AllocError>
-    ensures { IfOk result (Gives (rows_of (found_of given.now))) }
+    ensures { IfOk result (GivesConfig (rows_of (found_of given.now))) }
 {
     Ok(Config {
         keys: copies_of(alloc, given.get_strs("keys").unwrap_or(&[]))?,

@@ -4,10 +4,10 @@
 
 mod command_line;
 mod program;
-mod running;
-mod serving;
+mod script_run;
+mod service_run;
 
 pub use command_line::Serving;
 pub use program::{run_command, run_program};
-pub use running::run_config;
-pub use serving::run_serving;
+pub use script_run::run_config;
+pub use service_run::run_serving;

@@ -1,11 +1,11 @@
 //! One run of the program.
 ghost use Rattle.clap.specs.Words.{kind_of};
 ghost use Rattle.ports_program.specs.CommandLine.{seen, EndsUnasked, RunsMain, RunsOver};
-ghost use Rattle.ports_program.specs.Running.{io_bytes};
+ghost use Rattle.ports_program.specs.ScriptRun.{io_bytes};
 
 use crate::command_line::{Invocation, read_command};
-use crate::running::run_config;
-use crate::serving::run_serving;
+use crate::script_run::run_config;
+use crate::service_run::run_serving;
 use clap::Error;
 use clap::error::ErrorKind;
 use ports_core::Tenants;

@@ -7,7 +7,7 @@ use Rattle.std.specs.List.{starts_with}
 use Rattle.std.specs.Str.Iter.{HasSubslice}
 use Rattle.std.specs.Cmp.{both_ways}
 use Rattle.general_facts.specs.Bools.{or_elim}
-use Rattle.ports_query.specs.Meeting.{has_part}
+use Rattle.ports_query.specs.Candidate.{has_part}
 
 at_front : (text part : List ℕ) → starts_with nat_eq text part ≡ true → HasSubslice text part
 at_front text part begins =

@@ -1,10 +1,13 @@
 -- Queries of packages as they are written, for example `category=editors;version>=2.0`: conditions with
 -- semicolons between them. Their form is this project's choice. A text is its bytes.
-use Rattle.std.specs.Prelude.{ℕ, ◌==◌, ◌&&◌, ◌+◌, nat_le, nat_eq, if◌then◌else◌, List, [], ◌∷◌, length, take, drop}
+use Rattle.std.specs.Prelude.{◌≡◌, ℕ, ◌==◌, ◌&&◌, ◌+◌, nat_le, nat_eq, if◌then◌else◌, List, [], ◌∷◌, length, take, drop}
 use Rattle.std.specs.Prelude.{map, is_some, Option, Some, None, option_map, option_and_then, string_bytes, codes, Vec}
+use Rattle.std.specs.Prelude.{MatchOption, Result, IfOk}
+use Rattle.std.specs.Borrow.{Bor}
 use Rattle.std.specs.Global.{Global}
 use Rattle.std.specs.List.{slice_split, starts_with}
 use Rattle.std.specs.Str.{bytes_eq}
+use Rattle.general_facts.specs.Ascii.{semicolon}
 use Rattle.pkg_name.specs.Version.{is_version}
 use Rattle.ports_query.specs.declared.conditions.TextField.{TextField}
 use Rattle.ports_query.specs.declared.conditions.TextField.TheVariants.{Path, Name, Stem, Version, Maintainer, Comment}
@@ -86,17 +89,13 @@ conditions_of (text ∷ texts) =
     option_and_then (λ condition. option_map (λ conditions. condition ∷ conditions) (conditions_of texts))
     (condition_of text)
 
--- the byte `;`
-abbrev pub semicolon : ℕ
-semicolon = 59
-
 -- the conditions that these texts are, if they are at most eight
 abbrev pub few_conditions : List (List ℕ) → Option (List ConditionValue)
 few_conditions texts = if nat_le (length texts) 8 then conditions_of texts else None
 
 -- the conditions of a query: an empty text has none
-abbrev pub query_of : List ℕ → Option (List ConditionValue)
-query_of text = if length text == 0 then Some [] else few_conditions (slice_split (λ byte. byte == semicolon) text)
+abbrev pub query_conditions : List ℕ → Option (List ConditionValue)
+query_conditions text = if length text == 0 then Some [] else few_conditions (slice_split (λ byte. byte == semicolon) text)
 
 -- a condition, its texts as bytes
 abbrev pub condition_seen : Condition → ConditionValue
@@ -106,3 +105,16 @@ condition_seen (conditions.OnVersion bound version) = OfVersion bound version
 
 abbrev pub conditions_seen : Vec Condition Global → List ConditionValue
 conditions_seen conditions = map condition_seen conditions.items
+
+-- where a function succeeds, it read this condition, or none if there is none
+abbrev pub ReadsCondition : {F : Type 0} → Result (Option Condition) F → Option ConditionValue → Type 0
+ReadsCondition result condition = IfOk result (λ read. option_map condition_seen read ≡ condition)
+
+-- where a function succeeds, it read these conditions, or none if some text is no condition
+abbrev pub ReadsConditions : {F : Type 0} → Result (Option (Vec Condition Global)) F → Option (List ConditionValue) → Type 0
+ReadsConditions result conditions = IfOk result (λ read. option_map conditions_seen read ≡ conditions)
+
+-- a function found this operator, and what follows it; or there is none, and it found none
+abbrev pub FindsOperator : Option (Operator × Bor (List ℕ)) → Option OperatorAt → Type 0
+FindsOperator result operator =
+    MatchOption result (operator ≡ None) (λ found. operator ≡ Some (record { operator = found.0; behind = found.1.now }))

@@ -1,6 +1,7 @@
 -- Which dependencies a port has, and which lead to one.
-use Rattle.std.specs.Prelude.{ℕ, ◌&&◌, ◌||◌, Bool, true, false, List, map, filter, Option, Some, None}
+use Rattle.std.specs.Prelude.{◌≡◌, ℕ, ◌&&◌, ◌||◌, Bool, true, false, List, map, filter, Option, Some, None, Result, IfOk, Vec}
 use Rattle.std.specs.Borrow.{Bor}
+use Rattle.std.specs.Global.{Global}
 use Rattle.std.specs.Str.{bytes_eq}
 use Rattle.pkg_path.specs.Paths.{PathValue, port_path}
 use Rattle.port_rules.specs.declared.depends.DependKind.{DependKind}
@@ -52,3 +53,15 @@ edges_to_of kinds path edges = filter (λ (edge : RootEdgeValue). has_kind kinds
 -- the dependencies that references point to
 abbrev pub edges_lent : List (Bor RootEdgeValue) → List RootEdgeValue
 edges_lent edges = map (λ edge. edge.now) edges
+
+-- a dependency is of these kinds and of a port, and of its subpackage if one is named
+abbrev pub is_first_edge : Kinds → List ℕ → Option (List ℕ) → RootEdgeValue → Bool
+is_first_edge kinds root subpackage edge = has_kind kinds edge.edge.kind && (bytes_eq edge.root root && keeps subpackage edge.edge)
+
+-- a dependency is of these kinds and leads to a port, and to its subpackage if one is named
+abbrev pub is_edge_to : Kinds → List ℕ → Option (List ℕ) → RootEdgeValue → Bool
+is_edge_to kinds root subpackage edge = has_kind kinds edge.edge.kind && is_at root subpackage edge.edge.target
+
+-- where a function succeeds, it lends these dependencies
+abbrev pub LendsEdges : {F : Type 0} → Result (Vec (Bor RootEdgeValue) Global) F → List RootEdgeValue → Type 0
+LendsEdges result edges = IfOk result (λ found. edges_lent found.items ≡ edges)

@@ -1,7 +1,7 @@
 pub mod Conditions
-pub mod Meeting
-pub mod Listing
+pub mod Candidate
+pub mod ListedPackages
 pub mod Kinds
 pub mod Edges
 pub mod Paths
-pub mod Reaching
+pub mod Reach

@@ -1,8 +1,9 @@
 //! The conditions of a query.
-ghost use Rattle.std.specs.Prelude.{◌≡◌, IfOk, option_map};
+ghost use Rattle.std.specs.Prelude.{◌≡◌};
 ghost use Rattle.pkg_name.specs.Version.{is_version};
 ghost use Rattle.text_parts.specs.Cuts.{now_all};
-ghost use Rattle.ports_query.specs.Conditions.{condition_of, condition_with, conditions_of, condition_seen, conditions_seen, field_named};
+ghost use Rattle.ports_query.specs.Conditions.{condition_of, condition_with, conditions_of, field_named};
+ghost use Rattle.ports_query.specs.Conditions.{ReadsCondition, ReadsConditions};
 ghost use Rattle.ports_query.specs.declared.operators.Operator.TheVariants.{Plain, Ordered};
 
 use crate::operators::{Bound, Operator, OperatorSign, operator_at, plain_length};
@@ -59,7 +60,7 @@ impl Condition {
     /// The condition that a text is, if it is one.
     #[tactic(auto, unfolding(crate::specs::Conditions::condition_of))]
     pub(crate) fn read(alloc: Global, text: &str) -> Result<Option<Condition>, AllocError>
-        ensures { IfOk result (λ read. option_map condition_seen read ≡ condition_of text.now) }
+        ensures { ReadsCondition result (condition_of text.now) }
     {
         let (name, rest) = text.split_at(plain_length(text.as_bytes()));
         match operator_at(rest) {
@@ -75,8 +76,7 @@ impl Condition {
         operator: Operator,
         value: &str,
     ) -> Result<Option<Condition>, AllocError>
-        ensures { IfOk result (λ read. option_map condition_seen read
-            ≡ condition_with name.now operator value.now) }
+        ensures { ReadsCondition result (condition_with name.now operator value.now) }
     {
         match operator {
             Operator::Plain(sign) => Condition::plain(alloc, name, sign, value),
@@ -91,8 +91,7 @@ impl Condition {
         sign: OperatorSign,
         value: &str,
     ) -> Result<Option<Condition>, AllocError>
-        ensures { IfOk result (λ read. option_map condition_seen read
-            ≡ condition_with name.now (Plain sign) value.now) }
+        ensures { ReadsCondition result (condition_with name.now (Plain sign) value.now) }
     {
         let Some(field) = field_named(name) else {
             return Ok(None);
@@ -112,8 +111,7 @@ impl Condition {
         bound: Bound,
         value: &str,
     ) -> Result<Option<Condition>, AllocError>
-        ensures { IfOk result (λ read. option_map condition_seen read
-            ≡ condition_with name.now (Ordered bound) value.now) }
+        ensures { ReadsCondition result (condition_with name.now (Ordered bound) value.now) }
     {
         if name != "version" {
             return Ok(None);
@@ -131,8 +129,7 @@ pub(crate) fn read_conditions(
     alloc: Global,
     texts: &[&str],
 ) -> Result<Option<Vec<Condition>>, AllocError>
-    ensures { IfOk result (λ read. option_map conditions_seen read
-        ≡ conditions_of (now_all texts.now)) }
+    ensures { ReadsConditions result (conditions_of (now_all texts.now)) }
 {
     let mut conditions = Vec::new(alloc);
     for text in texts {

@@ -1,9 +1,9 @@
 //! The dependencies of a port, and those that lead to one.
-ghost use Rattle.std.specs.Prelude.{◌≡◌, ◌&&◌, IfOk};
+ghost use Rattle.std.specs.Prelude.{◌≡◌};
 ghost use Rattle.std.specs.Option.{option_copied};
-ghost use Rattle.std.specs.Str.{bytes_eq};
 ghost use Rattle.ports_query.specs.Edges as selection;
-ghost use Rattle.ports_query.specs.Kinds.{has_kind};
+ghost use Rattle.ports_query.specs.Edges.{LendsEdges, is_edge_to, is_first_edge, names_it};
+ghost use Rattle.ports_query.specs.Candidate.{TellsIf};
 
 use crate::kinds::Kinds;
 use crate::paths::PortPath;
@@ -21,8 +21,7 @@ pub fn first_edges<'a>(
     path: &PkgPath,
     edges: &'a [RootEdge],
 ) -> Result<Vec<&'a RootEdge>, AllocError>
-    ensures { IfOk result (λ found. selection.edges_lent found.items
-        ≡ selection.first_edges_of kinds path.now edges.now) }
+    ensures { LendsEdges result (selection.first_edges_of kinds path.now edges.now) }
 {
     let root = path.port_path(alloc)?;
     let mut found = Vec::new(alloc);
@@ -43,8 +42,7 @@ pub fn edges_to<'a>(
     path: &PkgPath,
     edges: &'a [RootEdge],
 ) -> Result<Vec<&'a RootEdge>, AllocError>
-    ensures { IfOk result (λ found. selection.edges_lent found.items
-        ≡ selection.edges_to_of kinds path.now edges.now) }
+    ensures { LendsEdges result (selection.edges_to_of kinds path.now edges.now) }
 {
     let root = path.port_path(alloc)?;
     let mut found = Vec::new(alloc);
@@ -58,10 +56,7 @@ pub fn edges_to<'a>(
 
 /// Whether a dependency is of these kinds and of a port, and of its subpackage if one is named.
 fn is_first(kinds: Kinds, root: &str, subpackage: Option<&str>, edge: &RootEdge) -> bool
-    ensures { result
-        ≡ (has_kind kinds edge.now.edge.kind
-        && (bytes_eq edge.now.root root.now
-        && selection.keeps (option_copied subpackage.entry) edge.now.edge)) }
+    ensures { result ≡ is_first_edge kinds root.now (option_copied subpackage.entry) edge.now }
 {
     kinds.have(edge.edge().kind()) && edge.root() == root && keeps(subpackage, edge.edge())
 }
@@ -91,9 +86,7 @@ fn leads_to(
     subpackage: Option<&str>,
     edge: &RootEdge,
 ) -> Result<bool, AllocError>
-    ensures { IfOk result (λ leads. leads
-        ≡ (has_kind kinds edge.now.edge.kind
-        && selection.is_at root.now (option_copied subpackage.entry) edge.now.edge.target)) }
+    ensures { TellsIf result (is_edge_to kinds root.now (option_copied subpackage.entry) edge.now) }
 {
     if !kinds.have(edge.edge().kind()) {
         return Ok(false);
@@ -107,7 +100,7 @@ fn leads_to(
 
 /// Whether a target names the same subpackage, if one is named.
 fn names_it(subpackage: Option<&str>, named: Option<&str>) -> bool
-    ensures { result ≡ selection.names_it (option_copied subpackage.entry) (option_copied named.entry) }
+    ensures { result ≡ names_it (option_copied subpackage.entry) (option_copied named.entry) }
 {
     match (subpackage, named) {
         (None, _) => true,

@@ -2,12 +2,12 @@
 //! spec, and which ports depend on which.
 #![tactic(auto)]
 
+mod candidate;
 mod conditions;
 mod edges;
 mod faults;
 mod kinds;
-mod listing;
-mod meeting;
+mod listed_packages;
 mod operators;
 mod paths;
 mod query;
@@ -16,6 +16,6 @@ mod reach;
 pub use edges::{edges_to, first_edges};
 pub use faults::QueryFault;
 pub use kinds::Kinds;
-pub use listing::{Listed, admits_one, admitted, answer};
+pub use listed_packages::{Listed, admits_one, admitted, answer};
 pub use query::Query;
 pub use reach::{reached, reaching};

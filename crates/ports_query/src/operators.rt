@@ -1,6 +1,6 @@
 //! The operators of conditions.
-ghost use Rattle.std.specs.Prelude.{◌≡◌, ◌≤◌, length, is_some, MatchOption, Some, None};
-ghost use Rattle.ports_query.specs.Conditions.{OperatorAt, operator_at, plain_length};
+ghost use Rattle.std.specs.Prelude.{◌≡◌, ◌≤◌, length, is_some};
+ghost use Rattle.ports_query.specs.Conditions.{FindsOperator, operator_at, plain_length};
 
 /// How a text, or one of several, is compared with a value.
 #[derive(Clone, Copy, Debug)]
@@ -33,9 +33,7 @@ pub(crate) enum Operator {
 
 /// The operator that a text begins with, and what follows it. `None` if the text begins with no operator.
 pub(crate) fn operator_at(text: &str) -> Option<(Operator, &str)>
-    ensures { MatchOption result (operator_at text.now ≡ None)
-        (λ found. operator_at text.now
-        ≡ Some (record { operator = found.0; behind = found.1.now })) }
+    ensures { FindsOperator result (operator_at text.now) }
 {
     if let Some(behind) = text.strip_prefix("!=") {
         return Some((Operator::Plain(OperatorSign::IsNot), behind));

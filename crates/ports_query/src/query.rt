@@ -1,6 +1,6 @@
 //! Queries of packages.
 ghost use Rattle.std.specs.Prelude.{◌≡◌, IfOk, IsErrOf, Some, None, map};
-ghost use Rattle.ports_query.specs.Conditions.{condition_seen, query_of};
+ghost use Rattle.ports_query.specs.Conditions.{condition_seen, query_conditions};
 
 use crate::conditions::{Condition, read_conditions};
 use crate::faults::QueryFault;
@@ -41,8 +41,8 @@ impl Query {
     ///
     /// Any other text gives `BadQuery`. If memory runs out, it gives `Memory`.
     pub fn read(alloc: Global, text: &str) -> Result<Query, QueryFault>
-        ensures ok { IfOk result (λ query. query_of text.now ≡ Some query) }
-        ensures bad { IsErrOf result QueryFault.BadQuery → query_of text.now ≡ None }
+        ensures ok { IfOk result (λ query. query_conditions text.now ≡ Some query) }
+        ensures bad { IsErrOf result QueryFault.BadQuery → query_conditions text.now ≡ None }
     {
         if text.is_empty() {
             return Ok(Query {

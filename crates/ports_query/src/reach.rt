@@ -1,9 +1,10 @@
 //! The ports that are reached over dependencies that are met, and those that reach one.
-ghost use Rattle.std.specs.Prelude.{◌≡◌, ◌++◌, IfOk, OnOk, map, string_bytes, option_map, option_to_list};
+ghost use Rattle.std.specs.Prelude.{◌≡◌, IfOk, map};
 ghost use Rattle.text_graph.specs.Arrows.{arrows_seen};
 ghost use Rattle.text_graph.specs.Listed.{reached_list, reaching_list};
 ghost use Rattle.ports_query.specs.Edges.{edges_lent};
-ghost use Rattle.ports_query.specs.Reaching as reaching;
+ghost use Rattle.ports_query.specs.Reach as the_reach;
+ghost use Rattle.ports_query.specs.Reach.{GivesPorts, GivesStep, GivesSteps, AddsStep, step_seen};
 
 use crate::edges::first_edges;
 use crate::kinds::Kinds;
@@ -26,8 +27,7 @@ pub fn reached(
     path: &PkgPath,
     edges: &[RootEdge],
 ) -> Result<Vec<String>, AllocError>
-    ensures { IfOk result (λ paths. map string_bytes paths.items
-        ≡ reaching.reached_from kinds path.now edges.now) }
+    ensures { GivesPorts result (the_reach.reached_from kinds path.now edges.now) }
 {
     let found = first_edges(alloc, kinds, path, edges)?;
     let first = steps_over_some(alloc, kinds, &found)?;
@@ -41,8 +41,7 @@ fn reached_over(
     first: &[Step<'_>],
     steps: &[Step<'_>],
 ) -> Result<Vec<String>, AllocError>
-    ensures { IfOk result (λ paths. map string_bytes paths.items
-        ≡ reached_list (map reaching.step_seen first.now) (map reaching.step_seen steps.now)) }
+    ensures { GivesPorts result (reached_list (map step_seen first.now) (map step_seen steps.now)) }
 {
     let first_arrows = arrows_over(alloc, first)?;
     let arrows = arrows_over(alloc, steps)?;
@@ -62,8 +61,7 @@ pub fn reaching(
     path: &PkgPath,
     edges: &[RootEdge],
 ) -> Result<Vec<String>, AllocError>
-    ensures { IfOk result (λ paths. map string_bytes paths.items
-        ≡ reaching.reaching_of kinds path.now edges.now) }
+    ensures { GivesPorts result (the_reach.reaching_of kinds path.now edges.now) }
 {
     let goal = path.port_path(alloc)?;
     let steps = steps_over(alloc, kinds, edges)?;
@@ -72,8 +70,7 @@ pub fn reaching(
 
 /// The starts of the ways over these steps that end at a path.
 fn reaching_over(alloc: Global, steps: &[Step<'_>], goal: &str) -> Result<Vec<String>, AllocError>
-    ensures { IfOk result (λ paths. map string_bytes paths.items
-        ≡ reaching_list (map reaching.step_seen steps.now) goal.now) }
+    ensures { GivesPorts result (reaching_list (map step_seen steps.now) goal.now) }
 {
     let arrows = arrows_over(alloc, steps)?;
     let paths = text_graph::reaching(alloc, &arrows, goal)?;
@@ -92,8 +89,7 @@ struct Step<'a> {
 impl<'a> Step<'a> {
     /// The step over a dependency, if that is of these kinds and met.
     fn over(alloc: Global, kinds: Kinds, edge: &'a RootEdge) -> Result<Option<Step<'a>>, AllocError>
-        ensures { IfOk result (λ step. option_map reaching.step_seen step
-            ≡ reaching.arrow_of kinds edge.now) }
+        ensures { GivesStep result (the_reach.arrow_of kinds edge.now) }
     {
         if !kinds.have(edge.edge().kind()) || !is_met(edge.edge().status()) {
             return Ok(None);
@@ -115,8 +111,7 @@ fn steps_over<'a>(
     kinds: Kinds,
     edges: &'a [RootEdge],
 ) -> Result<Vec<Step<'a>>, AllocError>
-    ensures { IfOk result (λ steps. map reaching.step_seen steps.items
-        ≡ reaching.arrows_of kinds edges.now) }
+    ensures { GivesSteps result (the_reach.arrows_of kinds edges.now) }
 {
     let mut steps = Vec::with_capacity(alloc, edges.len())?;
     for edge in edges {
@@ -131,8 +126,7 @@ fn steps_over_some<'a>(
     kinds: Kinds,
     edges: &[&'a RootEdge],
 ) -> Result<Vec<Step<'a>>, AllocError>
-    ensures { IfOk result (λ steps. map reaching.step_seen steps.items
-        ≡ reaching.arrows_of kinds (edges_lent edges.now)) }
+    ensures { GivesSteps result (the_reach.arrows_of kinds (edges_lent edges.now)) }
 {
     let mut steps = Vec::with_capacity(alloc, edges.len())?;
     for edge in edges {
@@ -143,9 +137,7 @@ fn steps_over_some<'a>(
 
 /// Adds a step, if there is one.
 fn add_step<'a>(step: Option<Step<'a>>, steps: &mut Vec<Step<'a>>) -> Result<(), AllocError>
-    ensures { OnOk result (map reaching.step_seen steps.new.items
-        ≡ map reaching.step_seen steps.old.items
-        ++ option_to_list (option_map reaching.step_seen step.entry)) }
+    ensures { AddsStep result steps.old steps.new step.entry }
 {
     if let Some(step) = step {
         steps.push(step)?;
@@ -155,14 +147,14 @@ fn add_step<'a>(step: Option<Step<'a>>, steps: &mut Vec<Step<'a>>) -> Result<(),
 
 /// Whether a dependency with this status is met.
 fn is_met(status: Status) -> bool
-    ensures { result ≡ reaching.is_met status }
+    ensures { result ≡ the_reach.is_met status }
 {
     matches!(status, Status::Ok)
 }
 
 /// The steps as arrows between texts.
 fn arrows_over<'a>(alloc: Global, steps: &'a [Step<'_>]) -> Result<Vec<Arrow<'a>>, AllocError>
-    ensures { IfOk result (λ arrows. arrows_seen arrows.items ≡ map reaching.step_seen steps.now) }
+    ensures { IfOk result (λ arrows. arrows_seen arrows.items ≡ map step_seen steps.now) }
 {
     let mut arrows = Vec::with_capacity(alloc, steps.len())?;
     for step in steps {

@@ -9,7 +9,7 @@ use Rattle.std.specs.Str.{IsUtf8}
 use Rattle.std.specs.Fmt.{padded_integral, format_spec, digits}
 use Rattle.std.proofs.lemmas.Fmt.{hex_byte as hex_byte_text}
 use Rattle.ports_script.proofs.PlaceFacts.{position-none, position-some, passes-at, position_or_len-cons}
-use Rattle.ports_script.specs.Escapes.{hex_value, hex_byte, hex_escape, escape_of, first_meant, unescaped_within, unescaped, is_escaped, hex_text, escape, escaped}
+use Rattle.ports_script.specs.Escapes.{hex_value, hex_byte, hex_escape, escape_of, first_meant, unescaped_within, unescaped, is_escaped, hex_text, escape, escaped_bytes}
 
 -- the text is no shorter than what follows its first byte
 abbrev IsShorter : Option (ℕ × List ℕ) → ℕ → Type 0
@@ -143,33 +143,33 @@ plain-IsUtf8 bytes at found = rw (position-some is_escaped bytes at found).1 at 
 pub all_plain-IsUtf8 : (bytes : List ℕ) → position is_escaped bytes ≡ None → IsUtf8 bytes
 all_plain-IsUtf8 bytes none = rw (take_all (position_or_len is_escaped bytes) bytes (position-none is_escaped bytes none)) at (front-IsUtf8 bytes)
 
-escaped-nil : escaped [] ≡ []
-unfolding escaped
-escaped-nil = refl
+escaped_bytes-nil : escaped_bytes [] ≡ []
+unfolding escaped_bytes
+escaped_bytes-nil = refl
 
 -- those bytes are printed as they are
-escaped-front : (bytes : List ℕ) → escaped bytes ≡ before_first is_escaped bytes ++ escaped (drop (position_or_len is_escaped bytes) bytes)
-unfolding escaped
-escaped-front [] = refl
-escaped-front (byte ∷ bytes) = by (is_escaped byte) refl (escaped-front bytes)
+escaped_bytes-front : (bytes : List ℕ) → escaped_bytes bytes ≡ before_first is_escaped bytes ++ escaped_bytes (drop (position_or_len is_escaped bytes) bytes)
+unfolding escaped_bytes
+escaped_bytes-front [] = refl
+escaped_bytes-front (byte ∷ bytes) = by (is_escaped byte) refl (escaped_bytes-front bytes)
   where
-    by : (b : Bool) → is_escaped byte ≡ b → escaped bytes ≡ before_first is_escaped bytes ++ escaped (drop (position_or_len is_escaped bytes) bytes) → escaped (byte ∷ bytes) ≡ before_first is_escaped (byte ∷ bytes) ++ escaped (drop (position_or_len is_escaped (byte ∷ bytes)) (byte ∷ bytes))
+    by : (b : Bool) → is_escaped byte ≡ b → escaped_bytes bytes ≡ before_first is_escaped bytes ++ escaped_bytes (drop (position_or_len is_escaped bytes) bytes) → escaped_bytes (byte ∷ bytes) ≡ before_first is_escaped (byte ∷ bytes) ++ escaped_bytes (drop (position_or_len is_escaped (byte ∷ bytes)) (byte ∷ bytes))
     by true t e = rw t refl
     by false t e = rw (position_or_len-cons is_escaped byte bytes t, escape-plain byte t) (ap (λ x. byte ∷ x) e)
 
-cons-escaped : (bytes : List ℕ) (at : ℕ) → at < length bytes → escaped (drop at bytes) ≡ escape (get_or bytes at 0) ++ escaped (drop (at + 1) bytes)
-unfolding escaped
+cons-escaped : (bytes : List ℕ) (at : ℕ) → at < length bytes → escaped_bytes (drop at bytes) ≡ escape (get_or bytes at 0) ++ escaped_bytes (drop (at + 1) bytes)
+unfolding escaped_bytes
 cons-escaped bytes at h = rw (drop_more bytes at 0 h) refl
 
-pub escaped-run : (bytes : List ℕ) (at : ℕ) → position is_escaped bytes ≡ Some at → escaped bytes ≡ take at bytes ++ (escape (get_or bytes at 0) ++ escaped (drop (at + 1) bytes))
-escaped-run bytes at found =
+pub escaped_bytes-run : (bytes : List ℕ) (at : ℕ) → position is_escaped bytes ≡ Some at → escaped_bytes bytes ≡ take at bytes ++ (escape (get_or bytes at 0) ++ escaped_bytes (drop (at + 1) bytes))
+escaped_bytes-run bytes at found =
     let place = position-some is_escaped bytes at found in
-    rw place.1 at (escaped-front bytes) ∙ ap (λ x. take at bytes ++ x) (cons-escaped bytes at place.0)
+    rw place.1 at (escaped_bytes-front bytes) ∙ ap (λ x. take at bytes ++ x) (cons-escaped bytes at place.0)
 
-pub escaped-plain : (bytes : List ℕ) → position is_escaped bytes ≡ None → escaped bytes ≡ bytes
-escaped-plain bytes none =
+pub escaped_bytes-plain : (bytes : List ℕ) → position is_escaped bytes ≡ None → escaped_bytes bytes ≡ bytes
+escaped_bytes-plain bytes none =
     let past = position-none is_escaped bytes none in
-    rw (take_all (position_or_len is_escaped bytes) bytes past, drop_all (position_or_len is_escaped bytes) bytes past, escaped-nil, append-nil) at (escaped-front bytes)
+    rw (take_all (position_or_len is_escaped bytes) bytes past, drop_all (position_or_len is_escaped bytes) bytes past, escaped_bytes-nil, append-nil) at (escaped_bytes-front bytes)
 
 -- what `{:02x}` writes of a byte
 pub hex_text-is : (byte : ℕ) → byte < 256 → hex_text byte ≡ codes "\\x" ++ padded_integral (format_spec 32 0 4 2 (2 ^ 64 - 1)) false [] (digits 16 false byte)

@@ -12,27 +12,27 @@ use Rattle.ports_core.specs.declared.event.Event.{Event}
 use Rattle.ports_script.specs.declared.script.Script.{Script}
 use Rattle.ports_script.specs.declared.script.ScriptFault.{ScriptFault}
 use Rattle.ports_script.specs.declared.script.ScriptFault.TheVariants.{BadEvent, Memory}
-use Rattle.ports_script.specs.Entries.{Entry, shown, event_of}
+use Rattle.ports_script.specs.Entries.{EventValue, entry_of_event, event_of}
 use Rattle.ports_script.specs.Scripts.{Reading, is_passed_over, put_before, with_event, with_line, events_from, script_of, numbered, IsFaultOf, HasGiven, HasGivenSome, ReadsScript, FailsToRead}
 use Rattle.refusals.specs.Refused.{refused}
 use Rattle.ports_script.proofs.PlaceFacts.{position-none, position-some}
 
-pub zip-push : (lines : List ℕ) (events : List Event) (line : ℕ) (event : Event) → length lines ≡ length events → zip (lines ++ line ∷ []) (map shown (events ++ event ∷ [])) ≡ zip lines (map shown events) ++ (line, shown event) ∷ []
+pub zip-push : (lines : List ℕ) (events : List Event) (line : ℕ) (event : Event) → length lines ≡ length events → zip (lines ++ line ∷ []) (map entry_of_event (events ++ event ∷ [])) ≡ zip lines (map entry_of_event events) ++ (line, entry_of_event event) ∷ []
 zip-push [] [] line event same = refl
 zip-push [] (e ∷ events) line event same = absurd (omega arith)
 zip-push (l ∷ lines) [] line event same = absurd (omega arith)
-zip-push (l ∷ lines) (e ∷ events) line event same = ap (λ x. (l, shown e) ∷ x) (zip-push lines events line event (omega arith))
+zip-push (l ∷ lines) (e ∷ events) line event same = ap (λ x. (l, entry_of_event e) ∷ x) (zip-push lines events line event (omega arith))
 
-pub put_before-twice : (xs ys : List (ℕ × Entry)) (later : Reading) → put_before xs (put_before ys later) ≡ put_before (xs ++ ys) later
+pub put_before-twice : (xs ys : List (ℕ × EventValue)) (later : Reading) → put_before xs (put_before ys later) ≡ put_before (xs ++ ys) later
 put_before-twice xs ys (Ok zs) = ap Ok (sym (append_assoc xs ys zs))
 put_before-twice xs ys (Err line) = refl
 
-pub IsFaultOf-before : (xs : List (ℕ × Entry)) (reading : Reading) (fault : ScriptFault) → IsFaultOf reading fault → IsFaultOf (put_before xs reading) fault
+pub IsFaultOf-before : (xs : List (ℕ × EventValue)) (reading : Reading) (fault : ScriptFault) → IsFaultOf reading fault → IsFaultOf (put_before xs reading) fault
 IsFaultOf-before xs reading (BadEvent line) h = rw h
 IsFaultOf-before xs reading (Memory _) h = tt
 
 -- a line with an event
-pub with_line-event : (line : ℕ) (text : List ℕ) (event : Entry) (later : Reading) → is_passed_over text ≡ false → event_of text ≡ Some event → with_line line text later ≡ put_before ((line, event) ∷ []) later
+pub with_line-event : (line : ℕ) (text : List ℕ) (event : EventValue) (later : Reading) → is_passed_over text ≡ false → event_of text ≡ Some event → with_line line text later ≡ put_before ((line, event) ∷ []) later
 with_line-event line text event later other e = rw (other, e)
 
 events_from-cons : (whole : Bool) (line : ℕ) (text : List ℕ) (texts : List (List ℕ)) (first : List ℕ) (others : List (List ℕ)) → texts ≡ first ∷ others → events_from whole line (text ∷ texts) ≡ with_line line text (events_from whole (line + 1) texts)
@@ -60,7 +60,7 @@ put_before-nil (Ok later) = refl
 put_before-nil (Err line) = refl
 
 -- before the first line nothing is read
-pub script_of-begins : (lines : List ℕ) (events : List Event) (whole : Bool) (text : List ℕ) → lines ≡ [] → put_before (zip lines (map shown events)) (events_from whole 1 (slice_split (λ byte. byte == 10) text)) ≡ script_of whole text
+pub script_of-begins : (lines : List ℕ) (events : List Event) (whole : Bool) (text : List ℕ) → lines ≡ [] → put_before (zip lines (map entry_of_event events)) (events_from whole 1 (slice_split (λ byte. byte == 10) text)) ≡ script_of whole text
 unfolding script_of
 script_of-begins lines events whole text none = rw none (put_before-nil (events_from whole 1 (slice_split (λ byte. byte == 10) text)))
 
@@ -81,45 +81,45 @@ OnOk-then P Q (Ok x) f h = f h
 OnOk-then P Q (Err e) f h = h
 
 -- the events of a script by their places
-pub entry-none_left : (lines : List ℕ) (events : List Event) (i : ℕ) → length lines ≤ i → slice_get (zip lines (map shown events)) i ≡ None
+pub entry-none_left : (lines : List ℕ) (events : List Event) (i : ℕ) → length lines ≤ i → slice_get (zip lines (map entry_of_event events)) i ≡ None
 entry-none_left [] events i h = refl
 entry-none_left (l ∷ lines) [] i h = refl
 entry-none_left (l ∷ lines) (e ∷ events) zero h = absurd (omega arith)
 entry-none_left (l ∷ lines) (e ∷ events) (suc i) h = entry-none_left lines events i (omega arith)
 
-pub entry-none_right : (lines : List ℕ) (events : List Event) (i : ℕ) → length events ≤ i → slice_get (zip lines (map shown events)) i ≡ None
+pub entry-none_right : (lines : List ℕ) (events : List Event) (i : ℕ) → length events ≤ i → slice_get (zip lines (map entry_of_event events)) i ≡ None
 entry-none_right [] events i h = refl
 entry-none_right (l ∷ lines) [] i h = refl
 entry-none_right (l ∷ lines) (e ∷ events) zero h = absurd (omega arith)
 entry-none_right (l ∷ lines) (e ∷ events) (suc i) h = entry-none_right lines events i (omega arith)
 
-pub entry-some : (lines : List ℕ) (events : List Event) (i line : ℕ) (event : Event) → i < length lines → i < length events → HoldsAt (λ l. line ≡ l) lines i → HoldsAt (λ e. event ≡ e) events i → slice_get (zip lines (map shown events)) i ≡ Some (line, shown event)
+pub entry-some : (lines : List ℕ) (events : List Event) (i line : ℕ) (event : Event) → i < length lines → i < length events → HoldsAt (λ l. line ≡ l) lines i → HoldsAt (λ e. event ≡ e) events i → slice_get (zip lines (map entry_of_event events)) i ≡ Some (line, entry_of_event event)
 entry-some [] events i line event h k a b = absurd (omega arith)
 entry-some (l ∷ lines) [] i line event h k a b = absurd (omega arith)
 entry-some (l ∷ lines) (e ∷ events) zero line event h k a b = rw (a l, b e)
 entry-some (l ∷ lines) (e ∷ events) (suc i) line event h k a b = entry-some lines events i line event (omega arith) (omega arith) a b
 
-put_before-ok : (xs zs : List (ℕ × Entry)) (reading : Reading) → put_before xs reading ≡ Ok zs → (ys : List (ℕ × Entry)) × (reading ≡ Ok ys)
+put_before-ok : (xs zs : List (ℕ × EventValue)) (reading : Reading) → put_before xs reading ≡ Ok zs → (ys : List (ℕ × EventValue)) × (reading ≡ Ok ys)
 put_before-ok xs zs (Ok ys) e = (ys, refl)
 put_before-ok xs zs (Err line) e = absurd (cc)
 
-with_event-ok : (line : ℕ) (event : Option Entry) (later : Reading) (zs : List (ℕ × Entry)) → with_event line event later ≡ Ok zs → (ys : List (ℕ × Entry)) × (later ≡ Ok ys)
+with_event-ok : (line : ℕ) (event : Option EventValue) (later : Reading) (zs : List (ℕ × EventValue)) → with_event line event later ≡ Ok zs → (ys : List (ℕ × EventValue)) × (later ≡ Ok ys)
 with_event-ok line None later zs e = absurd (cc)
 with_event-ok line (Some event) later zs e = put_before-ok ((line, event) ∷ []) zs later e
 
-cond_event-ok : (b : Bool) (line : ℕ) (event : Option Entry) (later : Reading) (zs : List (ℕ × Entry)) → cond b later (with_event line event later) ≡ Ok zs → (ys : List (ℕ × Entry)) × (later ≡ Ok ys)
+cond_event-ok : (b : Bool) (line : ℕ) (event : Option EventValue) (later : Reading) (zs : List (ℕ × EventValue)) → cond b later (with_event line event later) ≡ Ok zs → (ys : List (ℕ × EventValue)) × (later ≡ Ok ys)
 cond_event-ok true line event later zs e = (zs, e)
 cond_event-ok false line event later zs e = with_event-ok line event later zs e
 
 -- the last line of a text that isn't whole is never read
-never_read : (line : ℕ) (first : List ℕ) (others : List (List ℕ)) (zs : List (ℕ × Entry)) → events_from false line (first ∷ others) ≡ Ok zs → ⊥
+never_read : (line : ℕ) (first : List ℕ) (others : List (List ℕ)) (zs : List (ℕ × EventValue)) → events_from false line (first ∷ others) ≡ Ok zs → ⊥
 unfolding events_from
 never_read line first [] zs e = cc
 never_read line first (next ∷ later) zs e =
     let read = cond_event-ok (is_passed_over first) line (event_of first) (events_from false (line + 1) (next ∷ later)) zs e in
     never_read (line + 1) next later read.0 read.1
 
-cut_unread : (text : List ℕ) (zs : List (ℕ × Entry)) → script_of false text ≡ Ok zs → ⊥
+cut_unread : (text : List ℕ) (zs : List (ℕ × EventValue)) → script_of false text ≡ Ok zs → ⊥
 unfolding script_of
 cut_unread text zs e =
     let lines = slice_split-first (λ byte. byte == 10) text in

@@ -4,7 +4,7 @@ use Rattle.std.proofs.lemmas.List.{take_all, length-drop, take-append-le}
 use Rattle.std.proofs.Math.Seq.{take-add, take-append-add, take-length}
 use Rattle.std.proofs.KnownBytes.{Appends-trans, Appends-kept}
 use Rattle.std.specs.Io.KnownBytes.{Appends, Keeps}
-use Rattle.ports_script.specs.Writing.{AppendsFront, AppendsUpTo}
+use Rattle.ports_script.specs.Output.{AppendsFront, AppendsUpTo}
 
 -- what is left of bytes after so many, as a slice has it
 abbrev pub left_of : List ℕ → ℕ → List ℕ

@@ -3,38 +3,39 @@ use Rattle.std.specs.Prelude.{ℕ, ◌==◌, nat_lt, List, length, codes, Option
 use Rattle.std.specs.Prelude.{◌≡◌, Result, IfOk}
 use Rattle.std.specs.List.{list_all, position_or_len, before_first, after_first}
 use Rattle.std.specs.Str.{bytes_eq}
+use Rattle.general_facts.specs.Ascii.{space}
 use Rattle.ports_core.specs.declared.event.Event.{Event}
 use Rattle.ports_core.specs.declared.event.Event.TheVariants as event
 use Rattle.ports_script.specs.Numerals.{number_of}
 use Rattle.ports_script.specs.Escapes.{is_printable, unescaped}
 
 -- an event, with the bytes of a piece as a list
-pub data Entry : Type 0 where
-  Open : ℕ → Entry
-  Piece : ℕ → List ℕ → Entry
-  End : ℕ → Entry
-  Fault : ℕ → Entry
-  Wrote : ℕ → Option ℕ → Entry
-  Turn : ℕ → Entry
+pub data EventValue : Type 0 where
+  Open : ℕ → EventValue
+  Piece : ℕ → List ℕ → EventValue
+  End : ℕ → EventValue
+  Fault : ℕ → EventValue
+  Wrote : ℕ → Option ℕ → EventValue
+  Turn : ℕ → EventValue
 
 -- the event that a value of the service's type is
-abbrev pub shown : Event → Entry
-shown (event.Open conn) = Open conn
-shown (event.Piece conn bytes) = Piece conn bytes.items
-shown (event.End conn) = End conn
-shown (event.Fault conn) = Fault conn
-shown (event.Wrote conn count) = Wrote conn count
-shown (event.Turn tenant) = Turn tenant
+abbrev pub entry_of_event : Event → EventValue
+entry_of_event (event.Open conn) = Open conn
+entry_of_event (event.Piece conn bytes) = Piece conn bytes.items
+entry_of_event (event.End conn) = End conn
+entry_of_event (event.Fault conn) = Fault conn
+entry_of_event (event.Wrote conn count) = Wrote conn count
+entry_of_event (event.Turn tenant) = Turn tenant
 
 -- what is read of the parts of a text before and after its first blank; `None` for a text without a blank
-abbrev pub at_blank : (List ℕ → List ℕ → Option Entry) → List ℕ → Option Entry
+abbrev pub at_blank : (List ℕ → List ℕ → Option EventValue) → List ℕ → Option EventValue
 at_blank read text =
-    if nat_lt (position_or_len (λ byte. byte == 32) text) (length text)
-    then read (before_first (λ byte. byte == 32) text) (after_first (λ byte. byte == 32) text)
+    if nat_lt (position_or_len (λ byte. byte == space) text) (length text)
+    then read (before_first (λ byte. byte == space) text) (after_first (λ byte. byte == space) text)
     else None
 
 -- bytes that came on a connection, by its number and the escaped bytes
-abbrev pub piece_of : List ℕ → List ℕ → Option Entry
+abbrev pub piece_of : List ℕ → List ℕ → Option EventValue
 piece_of conn text =
     option_and_then (λ number. option_map (λ bytes. Piece number bytes) (unescaped text)) (number_of conn)
 
@@ -43,12 +44,12 @@ abbrev pub count_of : List ℕ → Option (Option ℕ)
 count_of text = if bytes_eq text (codes "all") then Some None else option_map (λ count. Some count) (number_of text)
 
 -- bytes of a connection that were written, by its number and how many
-abbrev pub wrote_of : List ℕ → List ℕ → Option Entry
+abbrev pub wrote_of : List ℕ → List ℕ → Option EventValue
 wrote_of conn count =
     option_and_then (λ number. option_map (λ written. Wrote number written) (count_of count)) (number_of conn)
 
 -- the event that a word and what follows it write
-abbrev pub worded : List ℕ → List ℕ → Option Entry
+abbrev pub worded : List ℕ → List ℕ → Option EventValue
 worded word rest =
     if bytes_eq word (codes "open") then option_map Open (number_of rest)
     else (if bytes_eq word (codes "piece") then at_blank piece_of rest
@@ -59,9 +60,9 @@ worded word rest =
 
 -- the event that a line writes: its bytes are from 32 to 126, and it is a word, a blank
 -- and what the word asks for
-unfoldable pub event_of : List ℕ → Option Entry
+unfoldable pub event_of : List ℕ → Option EventValue
 event_of line = if list_all is_printable line then at_blank worded line else None
 
 -- where a function succeeds, it read this event, or none if there is none
-abbrev pub ReadsEvent : {F : Type 0} → Result (Option Event) F → Option Entry → Type 0
-ReadsEvent result entry = IfOk result (λ event. option_map shown event ≡ entry)
+abbrev pub ReadsEvent : {F : Type 0} → Result (Option Event) F → Option EventValue → Type 0
+ReadsEvent result entry = IfOk result (λ event. option_map entry_of_event event ≡ entry)

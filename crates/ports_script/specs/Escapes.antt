@@ -5,17 +5,19 @@ use Rattle.std.specs.Prelude.{◌++◌, length, flat_map, codes, Option, Some, N
 use Rattle.std.specs.Prelude.{◌≡◌, if◌then◌else◌, MatchOption, Result, IfOk, Vec}
 use Rattle.std.specs.Borrow.{Bor}
 use Rattle.std.specs.declared.alloc.Global.{Global}
+use Rattle.general_facts.specs.Ascii.{tab, line_feed, carriage_return, space, digit_zero, digit_nine, capital_a}
+use Rattle.general_facts.specs.Ascii.{capital_f, backslash, small_a, small_f, small_n, small_r, small_t, small_x, tilde}
 
 -- a byte from the blank to the tilde
 abbrev pub is_printable : ℕ → Bool
-is_printable byte = nat_le 32 byte && nat_le byte 126
+is_printable byte = nat_le space byte && nat_le byte tilde
 
 -- what a hexadecimal digit of either case is worth
 abbrev pub hex_value : ℕ → Option ℕ
 hex_value digit =
-    if nat_le 48 digit && nat_le digit 57 then Some (digit - 48)
-    else (if nat_le 97 digit && nat_le digit 102 then Some (digit - 87)
-    else (if nat_le 65 digit && nat_le digit 70 then Some (digit - 55) else None))
+    if nat_le digit_zero digit && nat_le digit digit_nine then Some (digit - digit_zero)
+    else (if nat_le small_a digit && nat_le digit small_f then Some (digit - (small_a - 10))
+    else (if nat_le capital_a digit && nat_le digit capital_f then Some (digit - (capital_a - 10)) else None))
 
 -- the byte that two hexadecimal digits write, and the text after them
 abbrev pub hex_byte : ℕ → ℕ → List ℕ → Option (ℕ × List ℕ)
@@ -32,15 +34,15 @@ hex_escape [] = None
 abbrev pub escape_of : List ℕ → Option (ℕ × List ℕ)
 escape_of [] = None
 escape_of (letter ∷ rest) =
-    if letter == 114 then Some (13, rest)
-    else (if letter == 110 then Some (10, rest)
-    else (if letter == 116 then Some (9, rest)
-    else (if letter == 92 then Some (92, rest)
-    else (if letter == 120 then hex_escape rest else None))))
+    if letter == small_r then Some (carriage_return, rest)
+    else (if letter == small_n then Some (line_feed, rest)
+    else (if letter == small_t then Some (tab, rest)
+    else (if letter == backslash then Some (backslash, rest)
+    else (if letter == small_x then hex_escape rest else None))))
 
 -- the first byte that a text encodes, and the text after it
 abbrev pub first_meant : ℕ → List ℕ → Option (ℕ × List ℕ)
-first_meant byte rest = if byte == 92 then escape_of rest else Some (byte, rest)
+first_meant byte rest = if byte == backslash then escape_of rest else Some (byte, rest)
 
 -- the bytes that a text of at most this many bytes encodes
 abbrev pub unescaped_within : ℕ → List ℕ → Option (List ℕ)
@@ -55,11 +57,11 @@ unescaped text = unescaped_within (length text) text
 
 -- whether a byte is printed as an escape
 abbrev pub is_escaped : ℕ → Bool
-is_escaped byte = byte == 92 || not (is_printable byte)
+is_escaped byte = byte == backslash || not (is_printable byte)
 
 -- a hexadecimal digit, in lower case
 abbrev pub hex_digit : ℕ → ℕ
-hex_digit value = if nat_lt value 10 then 48 + value else 87 + value
+hex_digit value = if nat_lt value 10 then digit_zero + value else small_a - 10 + value
 
 -- a byte by its two hexadecimal digits
 abbrev pub hex_text : ℕ → List ℕ
@@ -68,16 +70,16 @@ hex_text byte = codes "\\x" ++ (hex_digit (byte / 16) ∷ hex_digit (byte % 16) 
 -- a byte as it is printed
 abbrev pub escape : ℕ → List ℕ
 escape byte =
-    if byte == 92 then codes "\\\\"
-    else (if byte == 13 then codes "\\r"
-    else (if byte == 10 then codes "\\n"
-    else (if byte == 9 then codes "\\t"
+    if byte == backslash then codes "\\\\"
+    else (if byte == carriage_return then codes "\\r"
+    else (if byte == line_feed then codes "\\n"
+    else (if byte == tab then codes "\\t"
     else (if is_printable byte then byte ∷ []
     else hex_text byte))))
 
 -- bytes as they are printed
-unfoldable pub escaped : List ℕ → List ℕ
-escaped bytes = flat_map escape bytes
+unfoldable pub escaped_bytes : List ℕ → List ℕ
+escaped_bytes bytes = flat_map escape bytes
 
 -- a function read this byte, and left the text after it; or there is none, and it read none
 abbrev pub ReadsByte : Option (ℕ × Bor (List ℕ)) → Option (ℕ × List ℕ) → Type 0

@@ -2,6 +2,6 @@ pub mod Numerals
 pub mod Escapes
 pub mod Entries
 pub mod Scripts
-pub mod Printing
-pub mod Writing
+pub mod Transcript
+pub mod Output
 pub mod Failures

@@ -5,29 +5,30 @@ use Rattle.std.specs.Prelude.{MatchOption, IfSome, IfOk, OnOk, IfErr, vec_len}
 use Rattle.std.specs.Borrow.{Bor}
 use Rattle.std.specs.List.{slice_split}
 use Rattle.std.specs.Io.KnownBytes.{Consumes, IsAtEnd}
+use Rattle.general_facts.specs.Ascii.{line_feed, hash_sign}
 use Rattle.refusals.specs.Refused.{refused}
 use Rattle.ports_core.specs.declared.event.Event.{Event}
 use Rattle.ports_script.specs.declared.input.Given.{Given}
 use Rattle.ports_script.specs.declared.script.Script.{Script}
 use Rattle.ports_script.specs.declared.script.ScriptFault.{ScriptFault}
 use Rattle.ports_script.specs.declared.script.ScriptFault.TheVariants.{BadEvent, Memory}
-use Rattle.ports_script.specs.Entries.{Entry, event_of, shown}
+use Rattle.ports_script.specs.Entries.{EventValue, event_of, entry_of_event}
 
 -- events, each with its line; or a line that is in no form of a script
 abbrev pub Reading : Type 0
-Reading = Result (List (ℕ × Entry)) ℕ
+Reading = Result (List (ℕ × EventValue)) ℕ
 
 -- the line is empty or a comment
 abbrev pub is_passed_over : List ℕ → Bool
-is_passed_over text = (length text == 0) || (slice_index text 0 == 35)
+is_passed_over text = (length text == 0) || (slice_index text 0 == hash_sign)
 
 -- events before those of the later lines
-abbrev pub put_before : List (ℕ × Entry) → Reading → Reading
+abbrev pub put_before : List (ℕ × EventValue) → Reading → Reading
 put_before events (Ok later) = Ok (events ++ later)
 put_before events (Err line) = Err line
 
 -- a line's event before those of the later lines
-abbrev pub with_event : ℕ → Option Entry → Reading → Reading
+abbrev pub with_event : ℕ → Option EventValue → Reading → Reading
 with_event line None later = Err line
 with_event line (Some event) later = put_before ((line, event) ∷ []) later
 
@@ -44,15 +45,15 @@ events_from whole line (text ∷ next ∷ later) = with_line line text (events_f
 
 -- the lines of a text, which is cut at its line feeds
 abbrev pub lines_of : List ℕ → List (List ℕ)
-lines_of text = slice_split (λ byte. byte == 10) text
+lines_of text = slice_split (λ byte. byte == line_feed) text
 
 -- the events of a text, whose lines are counted from 1
 unfoldable pub script_of : Bool → List ℕ → Reading
 script_of whole text = events_from whole 1 (lines_of text)
 
 -- the events of a script that was read, each with its line
-abbrev pub numbered : Script → List (ℕ × Entry)
-numbered script = zip script.lines.items (map shown script.events.items)
+abbrev pub numbered : Script → List (ℕ × EventValue)
+numbered script = zip script.lines.items (map entry_of_event script.events.items)
 
 -- the fault that a reading gives
 abbrev pub IsFaultOf : Reading → ScriptFault → Type 0
@@ -68,7 +69,7 @@ abbrev pub HasGivenSome : Option (List ℕ) → Option (List ℕ) → Type 0
 HasGivenSome old new = (text : List ℕ) × HasGiven old new false text
 
 -- an input is read to its end, and these are the events of its bytes, each with its line
-abbrev pub ReadsScript : Option (List ℕ) → Option (List ℕ) → List (ℕ × Entry) → Type 0
+abbrev pub ReadsScript : Option (List ℕ) → Option (List ℕ) → List (ℕ × EventValue) → Type 0
 ReadsScript old new entries = (text : List ℕ) × HasGiven old new true text × (script_of true text ≡ Ok entries)
 
 -- an input isn't read: its bytes, which aren't whole if a read failed, have a bad
@@ -94,11 +95,11 @@ abbrev pub IsPaired : Script → Type 0
 IsPaired script = vec_len script.lines ≡ vec_len script.events
 
 -- a function lends this event with its line, or nothing if there is none
-abbrev pub LendsEntry : Option (ℕ × Bor Event) → Option (ℕ × Entry) → Type 0
-LendsEntry result entry = option_map (λ (lent : ℕ × Bor Event). (lent.0, shown lent.1.now)) result ≡ entry
+abbrev pub LendsEntry : Option (ℕ × Bor Event) → Option (ℕ × EventValue) → Type 0
+LendsEntry result entry = option_map (λ (lent : ℕ × Bor Event). (lent.0, entry_of_event lent.1.now)) result ≡ entry
 
 -- where a function succeeds, it added this event with its line at the end of a script
-abbrev pub AddsEntry : {R F : Type 0} → Result R F → Script → Script → ℕ × Entry → Type 0
+abbrev pub AddsEntry : {R F : Type 0} → Result R F → Script → Script → ℕ × EventValue → Type 0
 AddsEntry result before after entry = OnOk result (numbered after ≡ numbered before ++ entry ∷ [])
 
 -- where a function succeeds, it added what this line gives, whatever the later lines give

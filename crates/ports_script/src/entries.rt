@@ -3,7 +3,7 @@ ghost use Rattle.std.specs.Prelude.{◌≡◌, ◌==◌, ◌<◌, IfSome, option
 ghost use Rattle.std.specs.List.{position};
 ghost use Rattle.ports_script.specs.Escapes.{unescaped, escape_of, hex_escape, hex_value, ReadsByte, GivesBytes};
 ghost use Rattle.ports_script.specs.Numerals.{number_of};
-ghost use Rattle.ports_script.specs.Entries.{Turn, shown, event_of, at_blank, piece_of, wrote_of, worded, ReadsEvent};
+ghost use Rattle.ports_script.specs.Entries.{Turn, entry_of_event, event_of, at_blank, piece_of, wrote_of, worded, ReadsEvent};
 
 use crate::numerals::read_number;
 use ports_core::Event;
@@ -59,7 +59,7 @@ fn read_piece(alloc: Global, text: &str) -> Result<Option<Event>, AllocError>
 
 /// `C N` or `C all`: bytes of a connection that were written.
 fn read_wrote(text: &str) -> Option<Event>
-    ensures { option_map shown result ≡ at_blank wrote_of text.now }
+    ensures { option_map entry_of_event result ≡ at_blank wrote_of text.now }
 {
     let (conn, count) = text.split_once(' ')?;
     let conn = read_number(conn)?;
@@ -72,7 +72,7 @@ fn read_wrote(text: &str) -> Option<Event>
 
 /// `T`: a turn of a tenant.
 fn read_turn(text: &str) -> Option<Event>
-    ensures { option_map shown result ≡ option_map Turn (number_of text.now) }
+    ensures { option_map entry_of_event result ≡ option_map Turn (number_of text.now) }
 {
     let tenant = read_number(text)?;
     Some(Event::Turn(tenant as usize))

@@ -2,11 +2,11 @@
 ghost use Rattle.std.specs.Prelude.{◌≡◌};
 ghost use Rattle.refusals.specs.Refused.{refused};
 ghost use Rattle.ports_script.specs.declared.failure.Failure.TheVariants as failures;
-ghost use Rattle.ports_script.specs.Writing.{AppendsUpTo, WritesAll, FailsAfterFront};
+ghost use Rattle.ports_script.specs.Output.{AppendsUpTo, WritesAll, FailsAfterFront};
 ghost use Rattle.ports_script.specs.Failures.{failure_status, failure_text, line_text, script_failure, new_failure};
 
+use crate::output::write_whole;
 use crate::script::ScriptFault;
-use crate::writing::write_whole;
 use itoa::Buffer;
 use ports_core::NewFault;
 use refusals::{OutOfMemory, StoreRefusal};

@@ -6,11 +6,11 @@ mod entries;
 mod failure;
 mod input;
 mod numerals;
-mod printing;
+mod output;
 mod script;
-mod writing;
+mod transcript;
 
 pub use failure::{DONE, Failure, REFUSED, report};
-pub use printing::transcript_text;
+pub use output::write_whole;
 pub use script::{Script, ScriptFault, read_script};
-pub use writing::write_whole;
+pub use transcript::transcript_text;

@@ -2,7 +2,7 @@
 ghost use Rattle.std.specs.Prelude.{◌≡◌, slice_get, IfOk, IfErr, OnOk};
 ghost use Rattle.refusals.specs.Refused.{refused};
 ghost use Rattle.ports_script.specs.declared.script.ScriptFault.TheVariants as faults;
-ghost use Rattle.ports_script.specs.Entries.{shown};
+ghost use Rattle.ports_script.specs.Entries.{entry_of_event};
 ghost use Rattle.ports_script.specs.Scripts.{script_of, numbered, IsFaultOf, FailsToRead, GivesScript, GivesReading};
 ghost use Rattle.ports_script.specs.Scripts.{IsPaired, LendsEntry, AddsEntry, AddsLine, FailsAtLine, FailsForMemory};
 ghost use Rattle.ports_script.specs.Scripts.{CutsFirstLine, LeavesLess};
@@ -63,7 +63,7 @@ impl Script {
     /// Adds an event with its line. The only error is `Memory`.
     fn push(&mut self, line: u64, event: Event) -> Result<(), ScriptFault>
         requires { IsPaired self.old }
-        ensures added { AddsEntry result self.old self.new (line, shown event) }
+        ensures added { AddsEntry result self.old self.new (line, entry_of_event event) }
         ensures paired { OnOk result (IsPaired self.new) }
         ensures err { FailsForMemory result }
     {

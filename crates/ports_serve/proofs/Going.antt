@@ -16,11 +16,11 @@ use Rattle.ports_core.specs.Runs.{Happens, Run, sent_by}
 use Rattle.ports_serve.specs.declared.wire.Outcome.{Outcome}
 use Rattle.ports_serve.specs.declared.wire.Outcome.TheVariants.{Nothing, Got, End, Fault}
 use Rattle.ports_serve.specs.Calls.{Call, Accept, Read, Write, Shut, Leads}
-use Rattle.ports_serve.specs.Rounds.{Course, quiet, joined, called, unopened, opening, writing, Follows, HappensOn, HearsPiece, Each, Accepts, Reads, Writes, TakesTurn, IsRound, Goes, numbers_from, most_at_once, comes, replies, brings, waits, Rounds}
-use Rattle.ports_serve.specs.Bringing.{Brought, Rested}
+use Rattle.ports_serve.specs.Rounds.{Course, quiet, joined_courses, called, unopened, opening, writing, Follows, HappensOn, HearsPiece, Each, Accepts, ReadsOnce, Writes, TakesTurn, IsRound, Goes, numbers_from, most_at_once, comes, replies, brings, waits, Rounds}
+use Rattle.ports_serve.specs.CourseReports.{Brought, Rested}
 
-joined-assoc : (a b c : Course) → joined (joined a b) c ≡ joined a (joined b c)
-joined-assoc a b c =
+joined_courses-assoc : (a b c : Course) → joined_courses (joined_courses a b) c ≡ joined_courses a (joined_courses b c)
+joined_courses-assoc a b c =
     ap (λ (calls : List Call). record { calls = calls; events = (a.events ++ b.events) ++ c.events; steps = (a.steps ++ b.steps) ++ c.steps }) (append_assoc a.calls b.calls c.calls)
     ∙ ap (λ (events : List Event). record { calls = a.calls ++ (b.calls ++ c.calls); events = events; steps = (a.steps ++ b.steps) ++ c.steps }) (append_assoc a.events b.events c.events)
     ∙ ap (λ (steps : List Effect). record { calls = a.calls ++ (b.calls ++ c.calls); events = a.events ++ (b.events ++ c.events); steps = steps }) (append_assoc a.steps b.steps c.steps)
@@ -33,13 +33,13 @@ or_swap false false true d = refl
 or_swap false false false d = refl
 
 -- two courses bring something together if one of them does
-pub brings-joined : (a b : Course) → brings (joined a b) ≡ (brings a || brings b)
+pub brings-joined : (a b : Course) → brings (joined_courses a b) ≡ (brings a || brings b)
 brings-joined a b =
     ap (λ x. x || list_any replies (a.steps ++ b.steps)) (list_any-append comes a.events b.events)
     ∙ ap (λ x. (list_any comes a.events || list_any comes b.events) || x) (list_any-append replies a.steps b.steps)
     ∙ or_swap (list_any comes a.events) (list_any comes b.events) (list_any replies a.steps) (list_any replies b.steps)
 
-both_bring : (first second : Bool) (a b : Course) → first ≡ brings a → second ≡ brings b → (first || second) ≡ brings (joined a b)
+both_bring : (first second : Bool) (a b : Course) → first ≡ brings a → second ≡ brings b → (first || second) ≡ brings (joined_courses a b)
 both_bring first second a b is also = ap (λ x. x || second) is ∙ ap (λ x. brings a || x) also ∙ sym (brings-joined a b)
 
 or_right : (a b c d : Bool) → (((a || b) || c) || d) ≡ (a || (b || (c || d)))
@@ -136,10 +136,10 @@ module _ {W : Type 0} (After : W → Call → W → Type 0) where
 
   -- a call, and then what its answer makes happen, which is told of the whole
   pub after_call_brought : {P Q : State → Course → State → Type 0} → (came : Bool) (old mid new : W) (state after_state : State) (call : Call)
-      → ((behind : Course) → P state behind after_state → Q state (joined (called call) behind) after_state)
+      → ((behind : Course) → P state behind after_state → Q state (joined_courses (called call) behind) after_state)
       → After old call mid → Goes After (Brought came P) mid state new after_state → Goes After (Brought came Q) old state new after_state
   after_call_brought came old mid new state after_state call wider after behind = record {
-    course = joined (called call) behind.course;
+    course = joined_courses (called call) behind.course;
     goes = (wider behind.course behind.goes.0, behind.goes.1);
     wire = (mid, after, behind.wire);
     run = behind.run;
@@ -168,32 +168,32 @@ module _ {W : Type 0} (After : W → Call → W → Type 0) where
       after went
 
   -- a connection without room isn't read
-  pub reads_none : (c : ℕ) (wire : W) (state : State) → room_at c state ≡ 0 → Goes After (Brought false (Reads c)) wire state wire state
+  pub reads_none : (c : ℕ) (wire : W) (state : State) → room_at c state ≡ 0 → Goes After (Brought false (ReadsOnce c)) wire state wire state
   reads_none c wire state none = record { course = quiet; goes = (inl (none, (refl, refl)), refl); wire = refl; run = refl }
 
   -- a connection is read: as many bytes are asked for as it has room for, up to the most
   pub reads_nothing : (c size : ℕ) (old new : W) (state : State) → 0 < room_at c state → size ≡ min (room_at c state) most_at_once
-      → After old (Read c size Nothing) new → Goes After (Brought false (Reads c)) old state new state
+      → After old (Read c size Nothing) new → Goes After (Brought false (ReadsOnce c)) old state new state
   reads_nothing c size old new state room is after =
       let asked : ℕ = min (room_at c state) most_at_once in
       record { course = called (Read c asked Nothing); goes = (inr (room, Nothing, (refl, refl)), refl); wire = (new, subst (λ n. After old (Read c n Nothing) new) is after, refl); run = refl }
 
   pub reads_piece : (c size : ℕ) (came : Bool) (bytes : List ℕ) (old mid new : W) (state after_state : State) → 0 < room_at c state → size ≡ min (room_at c state) most_at_once
-      → After old (Read c size (Got bytes)) mid → Goes After (Brought came (HearsPiece c bytes)) mid state new after_state → Goes After (Brought came (Reads c)) old state new after_state
+      → After old (Read c size (Got bytes)) mid → Goes After (Brought came (HearsPiece c bytes)) mid state new after_state → Goes After (Brought came (ReadsOnce c)) old state new after_state
   reads_piece c size came bytes old mid new state after_state room is after went =
       after_call_brought came old mid new state after_state (Read c (min (room_at c state) most_at_once) (Got bytes))
       (λ behind hears. inr (room, Got bytes, (behind, hears, refl)))
       (subst (λ n. After old (Read c n (Got bytes)) mid) is after) went
 
   pub reads_end : (c size : ℕ) (came : Bool) (old mid new : W) (state after_state : State) → 0 < room_at c state → size ≡ min (room_at c state) most_at_once
-      → After old (Read c size End) mid → Goes After (Brought came (HappensOn (events.End c))) mid state new after_state → Goes After (Brought came (Reads c)) old state new after_state
+      → After old (Read c size End) mid → Goes After (Brought came (HappensOn (events.End c))) mid state new after_state → Goes After (Brought came (ReadsOnce c)) old state new after_state
   reads_end c size came old mid new state after_state room is after went =
       after_call_brought came old mid new state after_state (Read c (min (room_at c state) most_at_once) End)
       (λ behind happens. inr (room, End, (behind, happens, refl)))
       (subst (λ n. After old (Read c n End) mid) is after) went
 
   pub reads_fault : (c size : ℕ) (came : Bool) (old mid new : W) (state after_state : State) → 0 < room_at c state → size ≡ min (room_at c state) most_at_once
-      → After old (Read c size Fault) mid → Goes After (Brought came (HappensOn (events.Fault c))) mid state new after_state → Goes After (Brought came (Reads c)) old state new after_state
+      → After old (Read c size Fault) mid → Goes After (Brought came (HappensOn (events.Fault c))) mid state new after_state → Goes After (Brought came (ReadsOnce c)) old state new after_state
   reads_fault c size came old mid new state after_state room is after went =
       after_call_brought came old mid new state after_state (Read c (min (room_at c state) most_at_once) Fault)
       (λ behind happens. inr (room, Fault, (behind, happens, refl)))
@@ -238,29 +238,29 @@ module _ {W : Type 0} (After : W → Call → W → Type 0) where
     pub brought : came ≡ brings course
     pub leads : Leads After old_wire course.calls wire
     pub runs : Run old course.events course.steps now
-    pub goes_on : (rest : Course) (new : State) → Left now rest new → Whole old (joined course rest) new
+    pub goes_on : (rest : Course) (new : State) → Left now rest new → Whole old (joined_courses course rest) new
 
   pub begins : (Whole : State → Course → State → Type 0) (wire : W) (state : State) → Underway false Whole Whole wire state wire state
   begins Whole wire state = record { course = quiet; brought = refl; leads = refl; runs = refl; goes_on = λ rest new goes. goes }
 
   pub goes_through : {Whole Left Part Rest : State → Course → State → Type 0} (came more : Bool) (old_wire wire next_wire : W) (old now next : State)
-      → ((first rest : Course) (new : State) → Part now first next → Rest next rest new → Left now (joined first rest) new)
+      → ((first rest : Course) (new : State) → Part now first next → Rest next rest new → Left now (joined_courses first rest) new)
       → Underway came Whole Left old_wire old wire now → Goes After (Brought more Part) wire now next_wire next
       → Underway (came || more) Whole Rest old_wire old next_wire next
   goes_through {Whole} {Left} {Part} {Rest} came more old_wire wire next_wire old now next put_together underway went = record {
-    course = joined underway.course went.course;
+    course = joined_courses underway.course went.course;
     brought = both_bring came more underway.course went.course underway.brought went.goes.1;
     leads = leads-append old_wire wire next_wire underway.course.calls went.course.calls underway.leads went.wire;
     runs = run-append old now next underway.course.events went.course.events underway.course.steps went.course.steps underway.runs went.run;
     goes_on = λ later new goes.
-        subst (λ c. Whole old c new) (sym (joined-assoc underway.course went.course later))
-        (underway.goes_on (joined went.course later) new (put_together went.course later new went.goes.0 goes));
+        subst (λ c. Whole old c new) (sym (joined_courses-assoc underway.course went.course later))
+        (underway.goes_on (joined_courses went.course later) new (put_together went.course later new went.goes.0 goes));
   }
 
   pub ends : {Whole Left : State → Course → State → Type 0} (came : Bool) (old_wire wire : W) (old now : State) → Left now quiet now
       → Underway came Whole Left old_wire old wire now → Goes After (Brought came Whole) old_wire old wire now
   ends {Whole} {Left} came old_wire wire old now none underway = record {
-    course = joined underway.course quiet;
+    course = joined_courses underway.course quiet;
     goes = (underway.goes_on quiet now none, sym (or-false came) ∙ both_bring came false underway.course quiet underway.brought refl);
     wire = subst (λ calls. Leads After old_wire calls wire) (sym (append-nil underway.course.calls)) underway.leads;
     run = subst (λ events. Run old events (underway.course.steps ++ []) now) (sym (append-nil underway.course.events))
@@ -276,10 +276,10 @@ module _ {W : Type 0} (After : W → Call → W → Type 0) where
   pub goes_round : (idle c1 c2 c3 c4 rested : Bool) (w0 w1 w2 w3 w4 : W) (s0 s1 s2 s3 s4 : State)
       → rested ≡ not ((((c1 || c2) || c3) || c4) || waits s4)
       → Goes After (Brought c1 (Accepts idle)) w0 s0 w1 s1
-      → Goes After (Brought c2 (Each Reads (connections_of s1))) w1 s1 w2 s2 → Goes After (Brought c3 (Each Writes (connections_of s2))) w2 s2 w3 s3
+      → Goes After (Brought c2 (Each ReadsOnce (connections_of s1))) w1 s1 w2 s2 → Goes After (Brought c3 (Each Writes (connections_of s2))) w2 s2 w3 s3
       → Goes After (Brought c4 (Each TakesTurn (numbers_from 0 (length (keys_of s3))))) w3 s3 w4 s4 → Goes After (Rested rested (IsRound idle)) w0 s0 w4 s4
   goes_round idle c1 c2 c3 c4 rested w0 w1 w2 w3 w4 s0 s1 s2 s3 s4 rests a b c d = record {
-    course = joined a.course (joined b.course (joined c.course d.course));
+    course = joined_courses a.course (joined_courses b.course (joined_courses c.course d.course));
     goes = (
       record {
         opened = s1;
@@ -296,8 +296,8 @@ module _ {W : Type 0} (After : W → Call → W → Type 0) where
         course_is = refl;
       },
       rests ∙ ap (λ x. not (x || waits s4)) (or_right c1 c2 c3 c4
-          ∙ both_bring c1 (c2 || (c3 || c4)) a.course (joined b.course (joined c.course d.course)) a.goes.1
-          (both_bring c2 (c3 || c4) b.course (joined c.course d.course) b.goes.1 (both_bring c3 c4 c.course d.course c.goes.1 d.goes.1))),
+          ∙ both_bring c1 (c2 || (c3 || c4)) a.course (joined_courses b.course (joined_courses c.course d.course)) a.goes.1
+          (both_bring c2 (c3 || c4) b.course (joined_courses c.course d.course) b.goes.1 (both_bring c3 c4 c.course d.course c.goes.1 d.goes.1))),
     );
     wire = leads-append w0 w1 w4 a.course.calls (b.course.calls ++ (c.course.calls ++ d.course.calls)) a.wire
         (leads-append w1 w2 w4 b.course.calls (c.course.calls ++ d.course.calls) b.wire (leads-append w2 w3 w4 c.course.calls d.course.calls c.wire d.wire));
@@ -308,9 +308,9 @@ module _ {W : Type 0} (After : W → Call → W → Type 0) where
 
 -- of a list that is gone through, the item that is reached is put before what is left
 pub item_then : (P : ℕ → State → Course → State → Type 0) {left rest : List ℕ} (x : ℕ) (now next : State) → left ≡ x ∷ rest
-    → (first later : Course) (new : State) → P x now first next → Each P rest next later new → Each P left now (joined first later) new
+    → (first later : Course) (new : State) → P x now first next → Each P rest next later new → Each P left now (joined_courses first later) new
 item_then P {left} {rest} x now next e first later new part goes =
-    subst (λ xs. Each P xs now (joined first later) new) (sym e) (first, next, later, part, goes, refl)
+    subst (λ xs. Each P xs now (joined_courses first later) new) (sym e) (first, next, later, part, goes, refl)
 
 -- after the last item nothing is left
 pub none_left : (P : ℕ → State → Course → State → Type 0) {left : List ℕ} (now : State) → left ≡ [] → Each P left now quiet now
@@ -318,9 +318,9 @@ none_left P {left} now e = subst (λ xs. Each P xs now quiet now) (sym e) (refl,
 
 -- a round is put before those that are left
 pub round_then : (left rest : ℕ) (idle rested : Bool) (now next : State) → left ≡ suc rest
-    → (first later : Course) (new : State) → Rested rested (IsRound idle) now first next → Rounds rest rested next later new → Rounds left idle now (joined first later) new
+    → (first later : Course) (new : State) → Rested rested (IsRound idle) now first next → Rounds rest rested next later new → Rounds left idle now (joined_courses first later) new
 round_then left rest idle rested now next e first later new part goes =
-    subst (λ count. Rounds count idle now (joined first later) new) (sym e)
+    subst (λ count. Rounds count idle now (joined_courses first later) new) (sym e)
     (first, next, later, part.0, subst (λ flag. Rounds rest flag next later new) part.1 goes, refl)
 
 -- after the last round nothing is left

@@ -1,5 +1,5 @@
 -- The calls of a wire.
-use Rattle.std.specs.Prelude.{◌≡◌, ℕ, ◌≤◌, Bool, List, [], ◌∷◌, take}
+use Rattle.std.specs.Prelude.{◌≡◌, ℕ, ◌≤◌, Bool, List, [], ◌∷◌, length, take}
 use Rattle.ports_serve.specs.declared.wire.Outcome.{Outcome}
 use Rattle.ports_serve.specs.declared.wire.Outcome.TheVariants.{Nothing, Got, End, Fault}
 
@@ -30,3 +30,11 @@ read_outcome buffer Fault = Fault
 abbrev pub Leads : {W : Type 0} → (W → Call → W → Type 0) → W → List Call → W → Type 0
 Leads After old [] new = new ≡ old
 Leads {W} After old (call ∷ calls) new = (mid : W) × After old call mid × Leads After mid calls new
+
+-- a wire was asked for bytes of a connection, as many as a buffer has, and this is in that buffer after it
+abbrev pub FillsFront : {W : Type 0} → (W → Call → W → Type 0) → ℕ → (before buffer : List ℕ) → Outcome ℕ → W → W → Type 0
+FillsFront After c before buffer outcome old new = After old (Read c (length before) (read_outcome buffer outcome)) new
+
+-- a wire was asked for bytes of a connection, at most so many, and this is in its buffer after it
+abbrev pub ReadsInto : {W : Type 0} → (W → Call → W → Type 0) → ℕ → ℕ → List ℕ → Outcome ℕ → W → W → Type 0
+ReadsInto After c size buffer outcome old new = After old (Read c size (read_outcome buffer outcome)) new

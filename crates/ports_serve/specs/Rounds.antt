@@ -26,8 +26,9 @@ abbrev pub quiet : Course
 quiet = record { calls = []; events = []; steps = [] }
 
 -- one after the other
-abbrev pub joined : Course → Course → Course
-joined first rest = record { calls = first.calls ++ rest.calls; events = first.events ++ rest.events; steps = first.steps ++ rest.steps }
+abbrev pub joined_courses : Course → Course → Course
+joined_courses first rest =
+    record { calls = first.calls ++ rest.calls; events = first.events ++ rest.events; steps = first.steps ++ rest.steps }
 
 -- a call of the wire, and no event
 abbrev pub called : Call → Course
@@ -55,7 +56,8 @@ ChangesNothing old course new = (course ≡ quiet) × (new ≡ old)
 -- a call, and what its answer makes happen, if anything
 abbrev pub Follows : Call → Option Event → State → Course → State → Type 0
 Follows call None old course new = (course ≡ called call) × (new ≡ old)
-Follows call (Some event) old course new = (behind : Course) × HappensOn event old behind new × (course ≡ joined (called call) behind)
+Follows call (Some event) old course new =
+    (behind : Course) × HappensOn event old behind new × (course ≡ joined_courses (called call) behind)
 
 -- a client that comes opens the next connection
 abbrev pub opening : ℕ → Outcome (Unit {0}) → Option Event
@@ -76,7 +78,7 @@ HearsPiece c bytes old course new = (piece : Vec ℕ Global) × (piece.items ≡
 abbrev pub Brings : ℕ → ℕ → Outcome (List ℕ) → State → Course → State → Type 0
 Brings c size (Got bytes) old course new =
     (behind : Course) × HearsPiece c bytes old behind new
-    × (course ≡ joined (called (Read c size (Got bytes))) behind)
+    × (course ≡ joined_courses (called (Read c size (Got bytes))) behind)
 Brings c size End old course new = Follows (Read c size End) (Some (events.End c)) old course new
 Brings c size Fault old course new = Follows (Read c size Fault) (Some (events.Fault c)) old course new
 Brings c size Nothing old course new = Follows (Read c size Nothing) None old course new
@@ -87,8 +89,8 @@ most_at_once = 16384
 
 -- A connection is read once. As many bytes are asked for as it has room for, up to the most that are read
 -- at once. If it has no room, it isn't read.
-abbrev pub Reads : ℕ → State → Course → State → Type 0
-Reads c old course new =
+abbrev pub ReadsOnce : ℕ → State → Course → State → Type 0
+ReadsOnce c old course new =
     ((room_at c old ≡ 0) × ChangesNothing old course new)
     ⊎ ((0 < room_at c old) × (outcome : Outcome (List ℕ)) × Brings c (min (room_at c old) most_at_once) outcome old course new)
 
@@ -112,7 +114,7 @@ TakesTurn t old course new = HappensOn (events.Turn t) old course new
 abbrev pub Each : (ℕ → State → Course → State → Type 0) → List ℕ → State → Course → State → Type 0
 Each P [] old course new = ChangesNothing old course new
 Each P (x ∷ xs) old course new =
-    (first : Course) × (mid : State) × (rest : Course) × P x old first mid × Each P xs mid rest new × (course ≡ joined first rest)
+    (first : Course) × (mid : State) × (rest : Course) × P x old first mid × Each P xs mid rest new × (course ≡ joined_courses first rest)
 
 -- so many numbers, from this one on
 abbrev pub numbers_from : ℕ → ℕ → List ℕ
@@ -127,13 +129,13 @@ pub record IsRound (idle : Bool) (old : State) (course : Course) (new : State) :
   pub accepts : Accepts idle old accepting opened
   pub heard : State
   pub reading : Course
-  pub reads : Each Reads (connections_of opened) opened reading heard
+  pub reads : Each ReadsOnce (connections_of opened) opened reading heard
   pub written : State
   pub answering : Course
   pub writes : Each Writes (connections_of heard) heard answering written
   pub working : Course
   pub turns : Each TakesTurn (numbers_from 0 (length (keys_of written))) written working new
-  pub course_is : course ≡ joined accepting (joined reading (joined answering working))
+  pub course_is : course ≡ joined_courses accepting (joined_courses reading (joined_courses answering working))
 
 -- an event comes from a client: it isn't a turn
 abbrev pub comes : Event → Bool
@@ -162,7 +164,7 @@ abbrev pub Rounds : ℕ → Bool → State → Course → State → Type 0
 Rounds zero idle old course new = ChangesNothing old course new
 Rounds (suc count) idle old course new =
     (first : Course) × (mid : State) × (rest : Course) × IsRound idle old first mid
-    × Rounds count (is_idle first mid) mid rest new × (course ≡ joined first rest)
+    × Rounds count (is_idle first mid) mid rest new × (course ≡ joined_courses first rest)
 
 -- A wire and a service go through a course of some kind, call by call, and the events of the course
 -- are a run of the service.

@@ -3,9 +3,9 @@
 #![tactic(auto)]
 
 mod listen;
-mod serving;
+mod rounds;
 mod wire;
 
 pub use listen::{Listen, ListenFault};
-pub use serving::serve;
+pub use rounds::serve;
 pub use wire::{Outcome, Wire};

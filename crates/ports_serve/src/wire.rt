@@ -1,6 +1,6 @@
 //! What carries the bytes of connections.
 ghost use Rattle.std.specs.Prelude.{◌≡◌, length};
-ghost use Rattle.ports_serve.specs.Calls.{Call, Accept, Read, Write, Shut, GotWithin, read_outcome};
+ghost use Rattle.ports_serve.specs.Calls.{Call, Accept, Write, Shut, FillsFront, GotWithin};
 
 /// What a call of a wire brought.
 #[derive(Clone, Copy, Debug, PartialEq, Eq)]
@@ -32,8 +32,7 @@ pub trait Wire {
     fn read(&mut self, conn: u64, buffer: &mut [u8]) -> Outcome<usize>
         ensures within { GotWithin (length buffer.old) result }
         ensures size { length buffer.new ≡ length buffer.old }
-        ensures after { after self.old (Read conn (length buffer.old)
-            (read_outcome buffer.new result)) self.new };
+        ensures after { FillsFront after conn buffer.old buffer.new result self.old self.new };
 
     /// Writes bytes to a connection, from the first on; `Got` says how many.
     fn write(&mut self, conn: u64, bytes: &[u8]) -> Outcome<usize>

@@ -7,8 +7,8 @@ use Rattle.std.specs.Bool.{beq}
 use Rattle.std.proofs.lemmas.Slice.Eq.{bytes_eq-Decides}
 use Rattle.mk_paths.specs.World.{FileMap}
 use Rattle.mk_paths.specs.FilesView.{Reply, Presence, Contents, Question, IsReply}
-use Rattle.mk_eval.specs.Sharing.{Agrees}
-use Rattle.read_trace.specs.Agreement.{same_content, has_reply, one_more, agreement, IsAnswered}
+use Rattle.mk_eval.specs.Agreement.{Agrees}
+use Rattle.read_trace.specs.Agreement.{same_content, has_reply, one_more_checked, agreement, IsAnswered}
 
 content_is : (one other : Option (List ℕ)) → same_content one other ≡ true → other ≡ one
 content_is None None same = refl
@@ -32,7 +32,7 @@ Agrees-agreement files [] agrees = tt
 Agrees-agreement files (question ∷ questions) agrees = by (has_reply files question) refl (Agrees-agreement files questions) agrees
   where
     by : (same : Bool) → has_reply files question ≡ same → ((agreement files questions).0 ≡ true → Agrees files questions)
-        → (if same then one_more (agreement files questions) else (false, 1)).0 ≡ true → IsReply files question.0 question.1 × Agrees files questions
+        → (if same then one_more_checked (agreement files questions) else (false, 1)).0 ≡ true → IsReply files question.0 question.1 × Agrees files questions
     by true same rest agrees = (reply_is files question same, rest agrees)
     by false same rest agrees = absurd (false≢true agrees)
 
@@ -59,11 +59,11 @@ has_reply-answered files name (Contents content) is = content_has (get files nam
 
 -- one more question that was answered
 pub IsAnswered-more : (files : FileMap) (questions : List Question) (question : Question) → IsAnswered files questions → has_reply files question ≡ true → IsAnswered files (questions ++ question ∷ [])
-IsAnswered-more files [] question answered has = ap (λ (b : Bool). (if b then one_more (true, 0) else (false, 1)).0) has
+IsAnswered-more files [] question answered has = ap (λ (b : Bool). (if b then one_more_checked (true, 0) else (false, 1)).0) has
 IsAnswered-more files (first ∷ questions) question answered has = by (has_reply files first) (λ answered. IsAnswered-more files questions question answered has) answered
   where
     by : (same : Bool) → ((agreement files questions).0 ≡ true → (agreement files (questions ++ question ∷ [])).0 ≡ true)
-        → (if same then one_more (agreement files questions) else (false, 1)).0 ≡ true → (if same then one_more (agreement files (questions ++ question ∷ [])) else (false, 1)).0 ≡ true
+        → (if same then one_more_checked (agreement files questions) else (false, 1)).0 ≡ true → (if same then one_more_checked (agreement files (questions ++ question ∷ [])) else (false, 1)).0 ≡ true
     by true rest answered = rest answered
     by false rest answered = absurd (false≢true answered)
 
@@ -77,5 +77,5 @@ IsAnswered-added (Err fault) files old new question answered has ok err = subst 
 pub agreement-Agrees : (files : FileMap) (questions : List Question) → Agrees files questions → IsAnswered files questions
 agreement-Agrees files [] agrees = refl
 agreement-Agrees files (question ∷ questions) agrees =
-    ap (λ (same : Bool). (if same then one_more (agreement files questions) else (false, 1)).0) (has_reply-answered files question.0 question.1 agrees.0)
+    ap (λ (same : Bool). (if same then one_more_checked (agreement files questions) else (false, 1)).0) (has_reply-answered files question.0 question.1 agrees.0)
     ∙ agreement-Agrees files questions agrees.1

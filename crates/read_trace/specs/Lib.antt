@@ -1,4 +1,4 @@
 pub mod Traces
-pub mod Recording
+pub mod Recorder
 pub mod Agreement
 pub mod Recorded

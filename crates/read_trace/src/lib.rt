@@ -2,14 +2,14 @@
 //! files can be asked whether they answer the same. Where they do, the evaluation is the same.
 #![tactic(auto)]
 
-mod agreeing;
-mod evaluating;
+mod agreement;
+mod evaluation;
 mod laws;
 mod recorder;
 mod trace;
 
-pub use agreeing::agrees;
-pub use evaluating::Evaluation;
+pub use agreement::agrees;
+pub use evaluation::Evaluation;
 pub use laws::{agrees_where_answered, same_where_agreed};
 pub use recorder::Recorder;
 pub use trace::{Question, Reply, Trace};

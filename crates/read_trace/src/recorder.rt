@@ -1,8 +1,7 @@
 // Files that write down what they are asked.
-ghost use Rattle.std.specs.Prelude.{◌≡◌, Some, [], ◌∷◌, IfOk, IfErr, OnOk, OnErr, true};
-ghost use Rattle.std.specs.Option.{option_copied};
-ghost use Rattle.mk_paths.specs.FilesView.{Presence, Contents, noted, Fails};
-ghost use Rattle.read_trace.specs.Agreement.{IsAnswered, has_reply};
+ghost use Rattle.std.specs.Prelude.{◌≡◌, Some, [], IfErr, OnErr, true};
+ghost use Rattle.mk_paths.specs.FilesView.{Presence, Contents, Fails};
+ghost use Rattle.read_trace.specs.Agreement.{IsAnswered, MakesQuestion, has_reply};
 
 use crate::trace::{Question, Reply, Trace};
 use mk_files::{Content, Files, Listing};
@@ -23,8 +22,9 @@ pub struct Recorder<F: Files + Drop> {
 }
 
 impl<F: Files + Drop> Recorder<F> {
-    ghost use Rattle.mk_eval.specs.Sharing.{Agrees};
-    ghost use Rattle.read_trace.specs.Recording.{view_of, asked_files, recording, log_of, with_trace};
+    ghost use Rattle.mk_eval.specs.Agreement.{Agrees};
+    ghost use Rattle.read_trace.specs.Recorder.{view_of, asked_files, recording, log_of, with_trace};
+    ghost use Rattle.read_trace.specs.Recorder.{HasContent, NotesOne, NotesContent};
 
     /// What asks these files, and goes on with this trace, whose answers are those of the files. It takes no
     /// memory.
@@ -68,8 +68,7 @@ impl<F: Files + Drop> Recorder<F> {
     // Writes down whether a file was there. If memory runs out, nothing changes.
     fn note_presence(&mut self, name: &Name, there: bool) -> Result<(), AllocError>
         requires { has_reply (view_of F.view self.old).files (name.now, Presence there) ≡ true }
-        ensures ok { OnOk result (view_of F.view self.new
-            ≡ noted (view_of F.view self.old) ((name.now, Presence there) ∷ [])) }
+        ensures ok { NotesOne F.view result self.old self.new (name.now, Presence there) }
         ensures err { OnErr result (view_of F.view self.new ≡ view_of F.view self.old) }
         ensures asked { asked_files F.view self.new ≡ asked_files F.view self.old }
     {
@@ -80,10 +79,8 @@ impl<F: Files + Drop> Recorder<F> {
     // Writes down the content of a file, which the trace then shares, or that the file wasn't there. If
     // memory runs out, nothing changes.
     fn note_content(&mut self, name: &Name, content: Option<&Content>) -> Result<(), AllocError>
-        requires { has_reply (view_of F.view self.old).files
-            (name.now, Contents (option_copied content)) ≡ true }
-        ensures ok { OnOk result (view_of F.view self.new
-            ≡ noted (view_of F.view self.old) ((name.now, Contents (option_copied content.entry)) ∷ [])) }
+        requires { HasContent (view_of F.view self.old).files name.now content }
+        ensures ok { NotesContent F.view result self.old self.new name.now content.entry }
         ensures err { OnErr result (view_of F.view self.new ≡ view_of F.view self.old) }
         ensures asked { asked_files F.view self.new ≡ asked_files F.view self.old }
     {
@@ -94,8 +91,7 @@ impl<F: Files + Drop> Recorder<F> {
     // Writes down a question that the files answer so. If memory runs out, nothing changes.
     fn note(&mut self, question: Question) -> Result<(), AllocError>
         requires { has_reply (view_of F.view self.old).files question ≡ true }
-        ensures ok { OnOk result (view_of F.view self.new
-            ≡ noted (view_of F.view self.old) (question ∷ [])) }
+        ensures ok { NotesOne F.view result self.old self.new question }
         ensures err { OnErr result (view_of F.view self.new ≡ view_of F.view self.old) }
         ensures asked { asked_files F.view self.new ≡ asked_files F.view self.old }
     {
@@ -119,8 +115,7 @@ fn content_question(
     name: &Name,
     content: Option<&Content>,
 ) -> Result<Question, AllocError>
-    ensures { IfOk result (λ question. question
-        ≡ (name.now, Contents (option_copied content.entry))) }
+    ensures { MakesQuestion result name.now content.entry }
 {
     let name = name.copy(alloc)?;
     let shared = match content {
@@ -131,8 +126,7 @@ fn content_question(
 }
 
 impl<F: Files + Drop> Names for Recorder<F> {
-    ghost use Rattle.mk_paths.specs.FilesView.{Answers};
-    ghost use Rattle.read_trace.specs.Recording.{view_of, asked_files, AsksOnce, MayFail};
+    ghost use Rattle.read_trace.specs.Recorder.{AnswersSeen, AsksFilesOnce, MayFail, view_of};
 
     ghost view = { view_of F.view };
 
@@ -140,12 +134,10 @@ impl<F: Files + Drop> Names for Recorder<F> {
 
     /// Whether a file of this name is there. The files are asked exactly once.
     fn has(&mut self, name: &Name) -> Result<bool, FilesFault>
-        ensures answer { IfOk result (λ there. Answers (view_of F.view self.old)
-            (view_of F.view self.new) name.now (Presence there)) }
+        ensures answer { AnswersSeen F.view Presence result self.old self.new name.now }
         ensures fault { OnErr result (Fails (view_of F.view self.old) (view_of F.view self.new)) }
         ensures kind { IfErr result (MayFail F.fails_with) }
-        ensures once { AsksOnce F.fails_with Presence (asked_files F.view self.old)
-            (asked_files F.view self.new) name.now result }
+        ensures once { AsksFilesOnce F.Names Presence self.old self.new name.now result }
     {
         match self.files.has(name) {
             Ok(there) => match self.note_presence(name, there) {
@@ -158,17 +150,14 @@ impl<F: Files + Drop> Names for Recorder<F> {
 }
 
 impl<F: Files + Drop> Files for Recorder<F> {
-    ghost use Rattle.mk_paths.specs.FilesView.{Answers};
-    ghost use Rattle.read_trace.specs.Recording.{view_of, asked_files, AsksOnce, MayFail};
+    ghost use Rattle.read_trace.specs.Recorder.{AnswersSeen, AsksFilesOnce, MayFail, view_of};
 
     /// The content of the file of this name; `None` if it isn't there. The files are asked exactly once.
     fn read(&mut self, name: &Name) -> Result<Option<Content>, FilesFault>
-        ensures answer { IfOk result (λ content. Answers (view_of F.view self.old)
-            (view_of F.view self.new) name.now (Contents content)) }
+        ensures answer { AnswersSeen F.view Contents result self.old self.new name.now }
         ensures fault { OnErr result (Fails (view_of F.view self.old) (view_of F.view self.new)) }
         ensures kind { IfErr result (MayFail F.fails_with) }
-        ensures once { AsksOnce F.fails_with Contents (asked_files F.view self.old)
-            (asked_files F.view self.new) name.now result }
+        ensures once { AsksFilesOnce F.Names Contents self.old self.new name.now result }
     {
         match self.files.read(name) {
             Ok(content) => match self.note_content(name, content.as_ref()) {

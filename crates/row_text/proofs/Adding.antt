@@ -6,7 +6,7 @@ use Rattle.std.proofs.lemmas.List.{take_at, drop_at, length-append, append-nil}
 use Rattle.std.proofs.lemmas.Nat.{from_le_bytes-to_le_bytes_8}
 use Rattle.std.proofs.lemmas.Str.{is_utf8-from_IsUtf8}
 use Rattle.general_facts.specs.Texts.{is_utf8-not}
-use Rattle.row_text.specs.Reads.{Read, give, read_on, value_in, ◌>>=◌, byte, stretch, number, utf8_text, text}
+use Rattle.row_text.specs.Reads.{Read, give, read_after, give_if_some, ◌>>=◌, byte, stretch, number, utf8_text, text}
 use Rattle.row_text.specs.Answers.{Adds}
 
 -- ---- adding bytes
@@ -23,7 +23,7 @@ Adds-then read next old mid new x y one more = record {
   are_added = more.are_added ∙ ap (λ (t : List ℕ). t ++ more.added) one.are_added ∙ append_assoc old one.added more.added;
   are_read = λ rest.
       ap (read >>= next) (append_assoc one.added more.added rest)
-      ∙ ap (λ found. read_on found next) (one.are_read (more.added ++ rest))
+      ∙ ap (λ found. read_after found next) (one.are_read (more.added ++ rest))
       ∙ more.are_read rest;
 }
 
@@ -51,7 +51,7 @@ number-front : (width : Width) (n : ℕ) (rest : List ℕ) → length (to_le_byt
     → number width (to_le_bytes width n ++ rest) ≡ Some (n, rest)
 unfolding number
 number-front width n rest long same =
-    ap (λ found. read_on found (λ digits. give (from_le_bytes width digits))) (stretch-front (to_le_bytes width n) rest (byte_len width) long)
+    ap (λ found. read_after found (λ digits. give (from_le_bytes width digits))) (stretch-front (to_le_bytes width n) rest (byte_len width) long)
     ∙ ap (λ (value : ℕ). Some (value, rest)) same
 
 pub Adds-number : (old new : List ℕ) (n : ℕ) → n < 2 ^ 64 → new ≡ old ++ to_le_bytes w64 n → Adds (number w64) old new n
@@ -76,8 +76,8 @@ pub text-by : (bytes rest left found : List ℕ) (count : ℕ) (read : Option (L
     → stretch count rest ≡ Some (found, left) → utf8_text found left ≡ read → text bytes ≡ read
 unfolding text
 text-by bytes rest left found count read counted cut tested =
-    ap (λ one. read_on one (λ n. stretch n >>= λ found. utf8_text found)) counted
-    ∙ ap (λ two. read_on two (λ found. utf8_text found)) cut
+    ap (λ one. read_after one (λ n. stretch n >>= λ found. utf8_text found)) counted
+    ∙ ap (λ two. read_after two (λ found. utf8_text found)) cut
     ∙ tested
 
 pub Adds-text : (old mid new written : List ℕ) → IsUtf8 written → Adds (number w64) old mid (length written) → new ≡ mid ++ written → Adds text old new written
@@ -88,5 +88,5 @@ Adds-text old mid new written good counted more =
     (record { added = []; are_added = sym (append-nil new); are_read = λ rest. utf8_text-good written rest good }))
 
 -- a value that is there is read
-pub Adds-value_in : {A : Type 0} (found : Option A) (x : A) (old : List ℕ) → found ≡ Some x → Adds (value_in found) old old x
-Adds-value_in found x old is = record { added = []; are_added = sym (append-nil old); are_read = λ rest. ap (λ o. value_in o rest) is }
+pub Adds-value_in : {A : Type 0} (found : Option A) (x : A) (old : List ℕ) → found ≡ Some x → Adds (give_if_some found) old old x
+Adds-value_in found x old is = record { added = []; are_added = sym (append-nil old); are_read = λ rest. ap (λ o. give_if_some o rest) is }

@@ -3,14 +3,14 @@ use Rattle.std.proofs.Common.{◌≡◌, ℕ, List, Some, refl, ap, subst, ◌�
 use Rattle.std.specs.Int.{w64}
 use Rattle.mk_base.specs.declared.faults.FaultKind.{FaultKind}
 use Rattle.mk_base.specs.declared.faults.FaultKind.TheVariants as kinds
-use Rattle.mk_base.specs.Faults.{number_of}
+use Rattle.mk_base.specs.Faults.{fault_number}
 use Rattle.mk_base.specs.FaultAt.{FaultAt, fault_at}
-use Rattle.row_text.specs.Reads.{give, ◌>>=◌, value_in, byte, number, text}
+use Rattle.row_text.specs.Reads.{give, ◌>>=◌, give_if_some, byte, number, text}
 use Rattle.row_text.specs.Faults.{kind_of, fault_kind, fault}
 use Rattle.row_text.specs.Answers.{Adds}
 use Rattle.row_text.proofs.Adding.{Adds-then, Adds-last, Adds-value_in}
 
-kind_of-number_of : (kind : FaultKind) → kind_of (number_of kind) ≡ Some kind
+kind_of-number_of : (kind : FaultKind) → kind_of (fault_number kind) ≡ Some kind
 unfolding kind_of
 kind_of-number_of kinds.Line = refl
 kind_of-number_of kinds.Block = refl
@@ -31,11 +31,11 @@ kind_of-number_of kinds.NoName = refl
 kind_of-number_of kinds.BadName = refl
 kind_of-number_of kinds.Questions = refl
 
-pub Adds-fault_kind : (old new : List ℕ) (kind : FaultKind) (value : ℕ) → value ≡ number_of kind → Adds byte old new value → Adds fault_kind old new kind
+pub Adds-fault_kind : (old new : List ℕ) (kind : FaultKind) (value : ℕ) → value ≡ fault_number kind → Adds byte old new value → Adds fault_kind old new kind
 unfolding fault_kind
 Adds-fault_kind old new kind value is one =
-    Adds-then byte (λ found. value_in (kind_of found)) old new new (number_of kind) kind (subst (Adds byte old new) is one)
-    (Adds-value_in (kind_of (number_of kind)) kind new (kind_of-number_of kind))
+    Adds-then byte (λ found. give_if_some (kind_of found)) old new new (fault_number kind) kind (subst (Adds byte old new) is one)
+    (Adds-value_in (kind_of (fault_number kind)) kind new (kind_of-number_of kind))
 
 pub Adds-fault : (old one two new : List ℕ) (kind : FaultKind) (name : List ℕ) (line : ℕ) (written : FaultAt)
     → Adds fault_kind old one kind → Adds text one two name → Adds (number w64) two new line

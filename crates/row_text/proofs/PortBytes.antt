@@ -7,7 +7,7 @@ use Rattle.port_rules.specs.Flavors.{FlavorsValue, make_flavors}
 use Rattle.port_rules.specs.Packages.{PackageValue, make_package}
 use Rattle.port_rules.specs.Depends.{DependValue, make_depend}
 use Rattle.port_rules.specs.Ports.{PortValue, make_port}
-use Rattle.row_text.specs.Reads.{give, ◌>>=◌, value_in, byte, text, texts, list}
+use Rattle.row_text.specs.Reads.{give, ◌>>=◌, give_if_some, byte, text, texts, list}
 use Rattle.row_text.specs.Names.{name}
 use Rattle.row_text.specs.Ports.{flavors, port_package, depend_number, depend_kind_of, depend_kind, depend, port}
 use Rattle.row_text.specs.Answers.{Adds}
@@ -23,7 +23,7 @@ depend_kind_of-depend_number kinds.Test = refl
 pub Adds-depend_kind : (old new : List ℕ) (kind : DependKind) (value : ℕ) → value ≡ depend_number kind → Adds byte old new value → Adds depend_kind old new kind
 unfolding depend_kind
 Adds-depend_kind old new kind value is one =
-    Adds-then byte (λ number. value_in (depend_kind_of number)) old new new (depend_number kind) kind (subst (Adds byte old new) is one)
+    Adds-then byte (λ number. give_if_some (depend_kind_of number)) old new new (depend_number kind) kind (subst (Adds byte old new) is one)
     (Adds-value_in (depend_kind_of (depend_number kind)) kind new (depend_kind_of-depend_number kind))
 
 -- Each part is what the value says of it. So the parts, one after another, are the value.

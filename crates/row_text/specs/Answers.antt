@@ -5,14 +5,14 @@ use Rattle.row_text.specs.declared.unread.Unread.{Unread}
 use Rattle.row_text.specs.declared.unread.Unread.TheVariants as unread
 
 -- Nothing is there. If memory ran out, nothing is said.
-abbrev pub Fails : {Y : Type 0} → Unread → Option Y → Type 0
-Fails unread.Damaged found = found ≡ None
-Fails (unread.Memory _) found = Unit {0}
+abbrev pub FindsNothing : {Y : Type 0} → Unread → Option Y → Type 0
+FindsNothing unread.Damaged found = found ≡ None
+FindsNothing (unread.Memory _) found = Unit {0}
 
 -- What a function answered, seen by `view`, is what is there.
 abbrev pub Gives : {X Y : Type 0} → (X → Y) → Result X Unread → Option Y → Type 0
 Gives view (Ok x) found = found ≡ Some (view x)
-Gives view (Err stop) found = Fails stop found
+Gives view (Err stop) found = FindsNothing stop found
 
 -- Bytes were added as which this value is read, whatever follows them.
 pub record Adds {A : Type 0} (read : Read A) (old new : List ℕ) (value : A) : Type 0 where

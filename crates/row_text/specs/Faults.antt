@@ -3,9 +3,9 @@ use Rattle.std.specs.Prelude.{ℕ, ◌==◌, List, [], ◌∷◌, find}
 use Rattle.std.specs.Int.{w64}
 use Rattle.mk_base.specs.declared.faults.FaultKind.{FaultKind}
 use Rattle.mk_base.specs.declared.faults.FaultKind.TheVariants as kinds
-use Rattle.mk_base.specs.Faults.{number_of}
+use Rattle.mk_base.specs.Faults.{fault_number}
 use Rattle.mk_base.specs.FaultAt.{FaultAt, fault_at}
-use Rattle.row_text.specs.Reads.{Read, give, value_in, ◌>>=◌, byte, number, text}
+use Rattle.row_text.specs.Reads.{Read, give, give_if_some, ◌>>=◌, byte, number, text}
 use Rattle.std.specs.Prelude.{Option}
 
 -- every kind of fault
@@ -17,11 +17,11 @@ fault_kinds =
 
 -- the kind of fault with this number, if there is one
 unfoldable pub kind_of : ℕ → Option FaultKind
-kind_of number = find (λ kind. number_of kind == number) fault_kinds
+kind_of number = find (λ kind. fault_number kind == number) fault_kinds
 
 -- a kind of fault: its number
 unfoldable pub fault_kind : Read FaultKind
-fault_kind bytes = (byte >>= λ number. value_in (kind_of number)) bytes
+fault_kind bytes = (byte >>= λ number. give_if_some (kind_of number)) bytes
 
 -- a fault: its kind, the name of the file, and the line
 unfoldable pub fault : Read FaultAt

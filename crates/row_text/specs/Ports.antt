@@ -6,7 +6,7 @@ use Rattle.port_rules.specs.Flavors.{FlavorsValue, make_flavors}
 use Rattle.port_rules.specs.Packages.{PackageValue, make_package}
 use Rattle.port_rules.specs.Depends.{DependValue, make_depend}
 use Rattle.port_rules.specs.Ports.{PortValue, make_port}
-use Rattle.row_text.specs.Reads.{Read, give, ◌>>=◌, value_in, byte, text, texts, list}
+use Rattle.row_text.specs.Reads.{Read, give, ◌>>=◌, give_if_some, byte, text, texts, list}
 use Rattle.row_text.specs.Names.{name}
 
 -- the flavors of a port: the chosen ones, the proper ones, and those that mark no name
@@ -34,7 +34,7 @@ depend_kind_of number = find (λ kind. depend_number kind == number) depend_kind
 
 -- what a dependency is for: its number
 unfoldable pub depend_kind : Read DependKind
-depend_kind bytes = (byte >>= λ number. value_in (depend_kind_of number)) bytes
+depend_kind bytes = (byte >>= λ number. give_if_some (depend_kind_of number)) bytes
 
 -- a dependency: what it is for, which package depends, and on what
 unfoldable pub depend : Read DependValue

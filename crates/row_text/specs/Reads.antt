@@ -16,19 +16,19 @@ abbrev pub refuse : {A : Type 0} → Read A
 refuse bytes = None
 
 -- what is read after what was read
-abbrev pub read_on : {A B : Type 0} → Option (A × List ℕ) → (A → Read B) → Option (B × List ℕ)
-read_on None next = None
-read_on (Some found) next = next found.0 found.1
+abbrev pub read_after : {A B : Type 0} → Option (A × List ℕ) → (A → Read B) → Option (B × List ℕ)
+read_after None next = None
+read_after (Some found) next = next found.0 found.1
 
 -- one thing, and after it another that depends on it
 infixl 10 ◌>>=◌
 abbrev pub ◌>>=◌ : {A B : Type 0} → Read A → (A → Read B) → Read B
-(read >>= next) bytes = read_on (read bytes) next
+(read >>= next) bytes = read_after (read bytes) next
 
 -- a value, if there is one, and nothing is read
-abbrev pub value_in : {A : Type 0} → Option A → Read A
-value_in None = refuse
-value_in (Some x) = give x
+abbrev pub give_if_some : {A : Type 0} → Option A → Read A
+give_if_some None = refuse
+give_if_some (Some x) = give x
 
 -- a byte
 unfoldable pub byte : Read ℕ
@@ -52,13 +52,13 @@ unfoldable pub text : Read (List ℕ)
 text bytes = (number w64 >>= λ count. stretch count >>= λ found. utf8_text found) bytes
 
 -- so many things, one after another
-unfoldable pub items : {A : Type 0} → Read A → ℕ → Read (List A)
-items read zero bytes = Some ([], bytes)
-items read (suc more) bytes = (read >>= λ first. items read more >>= λ others. give (first ∷ others)) bytes
+unfoldable pub counted_items : {A : Type 0} → Read A → ℕ → Read (List A)
+counted_items read zero bytes = Some ([], bytes)
+counted_items read (suc more) bytes = (read >>= λ first. counted_items read more >>= λ others. give (first ∷ others)) bytes
 
 -- a list of things: how many there are, and then these
 unfoldable pub list : {A : Type 0} → Read A → Read (List A)
-list read bytes = (number w64 >>= λ count. items read count) bytes
+list read bytes = (number w64 >>= λ count. counted_items read count) bytes
 
 -- a list of texts
 abbrev pub texts : Read (List (List ℕ))

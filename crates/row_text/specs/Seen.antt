@@ -5,5 +5,5 @@ use Rattle.row_text.specs.declared.rows.KeptRow.{KeptRow}
 use Rattle.row_text.specs.Rows.{RowValue, make_row}
 
 -- a row
-abbrev pub row_seen : KeptRow → RowValue
-row_seen kept = make_row (finding_seen kept.found).outcome (finding_seen kept.found).cost (map string_bytes kept.names.items)
+abbrev pub kept_row_seen : KeptRow → RowValue
+kept_row_seen kept = make_row (finding_seen kept.found).outcome (finding_seen kept.found).cost (map string_bytes kept.names.items)

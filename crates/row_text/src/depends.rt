@@ -1,6 +1,6 @@
 //! What ports depend on.
 ghost use Rattle.std.specs.Prelude.{◌≡◌, length, OnOk};
-ghost use Rattle.row_text.specs.Reads.{items, list};
+ghost use Rattle.row_text.specs.Reads.{counted_items, list};
 ghost use Rattle.row_text.specs.Ports.{depend_number, depend_kind_of, depend_kind, depend};
 ghost use Rattle.row_text.specs.Answers.{Gives, Adds};
 
@@ -76,7 +76,7 @@ pub(crate) fn read_depends(alloc: Global, bytes: &[u8]) -> Result<(Vec<Depend>, 
 
 /// So many dependencies.
 fn depends_in(alloc: Global, count: u64, bytes: &[u8]) -> Result<(Vec<Depend>, &[u8]), Unread>
-    ensures { Gives (λ x. (x.0.items, x.1.now)) result (items depend count bytes.now) }
+    ensures { Gives (λ x. (x.0.items, x.1.now)) result (counted_items depend count bytes.now) }
 {
     let mut found = Vec::with_capacity(alloc, usize::min(count as usize, bytes.len()))?;
     let mut rest = bytes;
@@ -115,7 +115,7 @@ pub(crate) fn write_depends(out: &mut Vec<u8>, written: &[Depend]) -> Result<(),
 /// Adds dependencies, one after another.
 fn put_depends(out: &mut Vec<u8>, written: &[Depend]) -> Result<(), AllocError>
     ensures { OnOk result
-        (Adds (items depend (length written.now)) out.old.items out.new.items written.now) }
+        (Adds (counted_items depend (length written.now)) out.old.items out.new.items written.now) }
 {
     for depend in written {
         write_depend(out, depend)?;

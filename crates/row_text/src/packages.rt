@@ -1,6 +1,6 @@
 //! Packages of ports.
 ghost use Rattle.std.specs.Prelude.{◌≡◌, length, OnOk};
-ghost use Rattle.row_text.specs.Reads.{items, list};
+ghost use Rattle.row_text.specs.Reads.{counted_items, list};
 ghost use Rattle.row_text.specs.Ports.{port_package};
 ghost use Rattle.row_text.specs.Answers.{Gives, Adds};
 
@@ -32,7 +32,7 @@ pub(crate) fn read_packages(alloc: Global, bytes: &[u8]) -> Result<(Vec<Package>
 
 /// So many packages.
 fn packages_in(alloc: Global, count: u64, bytes: &[u8]) -> Result<(Vec<Package>, &[u8]), Unread>
-    ensures { Gives (λ x. (x.0.items, x.1.now)) result (items port_package count bytes.now) }
+    ensures { Gives (λ x. (x.0.items, x.1.now)) result (counted_items port_package count bytes.now) }
 {
     let mut found = Vec::with_capacity(alloc, usize::min(count as usize, bytes.len()))?;
     let mut rest = bytes;
@@ -68,7 +68,7 @@ pub(crate) fn write_packages(
 /// Adds packages, one after another.
 fn put_packages(alloc: Global, out: &mut Vec<u8>, written: &[Package]) -> Result<(), AllocError>
     ensures { OnOk result
-        (Adds (items port_package (length written.now)) out.old.items out.new.items written.now) }
+        (Adds (counted_items port_package (length written.now)) out.old.items out.new.items written.now) }
 {
     for one in written {
         write_package(alloc, out, one)?;

@@ -1,7 +1,7 @@
 //! Rows.
 ghost use Rattle.std.specs.Prelude.{◌≡◌, Some, option_map, IfOk, OnOk};
 ghost use Rattle.row_text.specs.Rows.{row, row_of};
-ghost use Rattle.row_text.specs.Seen.{row_seen};
+ghost use Rattle.row_text.specs.Seen.{kept_row_seen};
 ghost use Rattle.row_text.specs.Answers.{Gives, Adds};
 
 use crate::fields::{read_number, write_number};
@@ -27,7 +27,7 @@ pub struct KeptRow {
 ///
 /// It fails only if memory runs out.
 pub fn write_row(alloc: Global, row: &KeptRow) -> Result<Vec<u8>, AllocError>
-    ensures { IfOk result (λ text. row_of text.items ≡ Some (row_seen row.now)) }
+    ensures { IfOk result (λ text. row_of text.items ≡ Some (kept_row_seen row.now)) }
 {
     let mut out = Vec::with_capacity(alloc, ROW_CAPACITY)?;
     write_parts(alloc, &mut out, row)?;
@@ -36,7 +36,7 @@ pub fn write_row(alloc: Global, row: &KeptRow) -> Result<Vec<u8>, AllocError>
 
 /// The row that bytes are; `None` if they are damaged. It fails only if memory runs out.
 pub fn read_row(alloc: Global, text: &[u8]) -> Result<Option<KeptRow>, AllocError>
-    ensures { IfOk result (λ found. option_map row_seen found ≡ row_of text.now) }
+    ensures { IfOk result (λ found. option_map kept_row_seen found ≡ row_of text.now) }
 {
     match read_whole(alloc, text) {
         Ok(kept) => Ok(Some(kept)),
@@ -48,7 +48,7 @@ pub fn read_row(alloc: Global, text: &[u8]) -> Result<Option<KeptRow>, AllocErro
 /// The row that bytes are.
 #[tactic(auto, unfolding(crate::specs::Rows::row_of))]
 fn read_whole(alloc: Global, text: &[u8]) -> Result<KeptRow, Unread>
-    ensures { Gives row_seen result (row_of text.now) }
+    ensures { Gives kept_row_seen result (row_of text.now) }
 {
     let (kept, rest) = read_parts(alloc, text)?;
     if !rest.is_empty() {
@@ -60,7 +60,7 @@ fn read_whole(alloc: Global, text: &[u8]) -> Result<KeptRow, Unread>
 /// A row.
 #[tactic(auto, unfolding(crate::specs::Rows::row))]
 fn read_parts(alloc: Global, bytes: &[u8]) -> Result<(KeptRow, &[u8]), Unread>
-    ensures { Gives (λ x. (row_seen x.0, x.1.now)) result (row bytes.now) }
+    ensures { Gives (λ x. (kept_row_seen x.0, x.1.now)) result (row bytes.now) }
 {
     let (found, rest) = read_outcome(alloc, bytes)?;
     let (cost, rest) = read_number(rest)?;
@@ -71,7 +71,7 @@ fn read_parts(alloc: Global, bytes: &[u8]) -> Result<(KeptRow, &[u8]), Unread>
 
 /// Adds a row.
 fn write_parts(alloc: Global, out: &mut Vec<u8>, kept: &KeptRow) -> Result<(), AllocError>
-    ensures { OnOk result (Adds row out.old.items out.new.items (row_seen kept.now)) }
+    ensures { OnOk result (Adds row out.old.items out.new.items (kept_row_seen kept.now)) }
 {
     write_outcome(alloc, out, &kept.found.row)?;
     write_number(out, kept.found.cost)?;

@@ -1,6 +1,6 @@
 //! Lists of texts.
 ghost use Rattle.std.specs.Prelude.{◌≡◌, length, map, string_bytes, OnOk};
-ghost use Rattle.row_text.specs.Reads.{text, texts, items};
+ghost use Rattle.row_text.specs.Reads.{text, texts, counted_items};
 ghost use Rattle.row_text.specs.Answers.{Gives, Adds};
 
 use crate::fields::{read_number, read_text, write_number, write_text};
@@ -19,7 +19,7 @@ pub(crate) fn read_texts(alloc: Global, bytes: &[u8]) -> Result<(Vec<String>, &[
 /// So many texts.
 fn texts_in(alloc: Global, count: u64, bytes: &[u8]) -> Result<(Vec<String>, &[u8]), Unread>
     ensures { Gives (λ x. (map string_bytes x.0.items, x.1.now)) result
-        (items text count bytes.now) }
+        (counted_items text count bytes.now) }
 {
     let mut found = Vec::with_capacity(alloc, usize::min(count as usize, bytes.len()))?;
     let mut rest = bytes;
@@ -42,7 +42,7 @@ pub(crate) fn write_texts(out: &mut Vec<u8>, written: &[String]) -> Result<(), A
 
 /// Adds texts, one after another.
 fn put_texts(out: &mut Vec<u8>, written: &[String]) -> Result<(), AllocError>
-    ensures { OnOk result (Adds (items text (length written.now))
+    ensures { OnOk result (Adds (counted_items text (length written.now))
         out.old.items out.new.items (map string_bytes written.now)) }
 {
     for text in written {

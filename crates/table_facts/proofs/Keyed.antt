@@ -40,7 +40,7 @@ use Rattle.sqlite.specs.declared.error.Error.{Error}
 use Rattle.sqlite.specs.Effect.{value_rows}
 use Rattle.sqlite.specs.Rows.{stamped}
 use Rattle.sqlite.specs.State.{State, Shown, FailsToQuery}
-use Rattle.table_facts.specs.Filled.{Layout, Entries, AreFilled, IsRowOf, row_of, has_key, entries_in, changed_at}
+use Rattle.table_facts.specs.Filled.{Layout, EntriesByKey, AreFilled, IsRowOf, entry_row, has_key, entries_of_rows, changed_at}
 use Rattle.table_facts.specs.States.{IsSettled, Ran, Stays}
 use Rattle.table_facts.proofs.Ending.{if_ok_then}
 use Rattle.table_facts.proofs.Rows.{mapped_rise, put_row-next}
@@ -97,7 +97,7 @@ module _ {E : Type 0} (layout : Layout E) where
   key_is key e is = (bytes_eq-Decides key (layout.key e)).0 is
 
   -- an entry of the map is that of a row with the key
-  pub row_found : (rows : List Row) (key : List ℕ) (e : E) → entries_in layout rows key ≡ Some e
+  pub row_found : (rows : List Row) (key : List ℕ) (e : E) → entries_of_rows layout rows key ≡ Some e
       → (r : Row) × Has rows r × (e ≡ layout.entry r) × (key ≡ layout.key e)
   row_found rows key e is =
       let it = has_found (has_key layout key) (map layout.entry rows) e is in
@@ -111,7 +111,7 @@ module _ {E : Type 0} (layout : Layout E) where
 
   -- the entry of a row is found at its key
   pub found_row : (rows : List Row) → AreFilled layout rows → (r : Row) → Has rows r
-      → entries_in layout rows (layout.key (layout.entry r)) ≡ Some (layout.entry r)
+      → entries_of_rows layout rows (layout.key (layout.entry r)) ≡ Some (layout.entry r)
   found_row rows filled r h =
       let own = layout.entry r in
       find_is (has_key layout (layout.key own)) (map layout.entry rows) own (mapped_has layout.entry rows r h)
@@ -121,8 +121,8 @@ module _ {E : Type 0} (layout : Layout E) where
       s.2 ∙ ap layout.entry (filled.once s.0 r s.1 h (sym (key_is (layout.key own) e ok ∙ ap layout.key s.2))))
 
   module _ (rows : List Row) (filled : AreFilled layout rows) where
-    abbrev was : Entries E
-    was = entries_in layout rows
+    abbrev was : EntriesByKey E
+    was = entries_of_rows layout rows
 
     -- ---- some rows are left
 
@@ -134,7 +134,7 @@ module _ {E : Type 0} (layout : Layout E) where
         once = λ r s k l. filled.once r s (has_filtered p rows r k).0 (has_filtered p rows s l).0;
       }
 
-      left_found : (key : List ℕ) → entries_in layout (filter p rows) key ≡ option_filter q (was key)
+      left_found : (key : List ℕ) → entries_of_rows layout (filter p rows) key ≡ option_filter q (was key)
       left_found key = same_option _ _
           (λ e is.
           let r = row_found (filter p rows) key e is in
@@ -145,7 +145,7 @@ module _ {E : Type 0} (layout : Layout E) where
           let it = option_filter_is q (was key) e is in
           let r = row_found rows key e it.0 in
           let stays = has_kept p rows r.0 r.1 (same r.0 r.1 ∙ ap q (sym r.2) ∙ it.1) in
-          ap (entries_in layout (filter p rows)) (r.3 ∙ ap layout.key r.2) ∙ found_row (filter p rows) left_filled r.0 stays
+          ap (entries_of_rows layout (filter p rows)) (r.3 ∙ ap layout.key r.2) ∙ found_row (filter p rows) left_filled r.0 stays
           ∙ ap Some (sym r.2))
 
     -- ---- rows are replaced, and keep their keys
@@ -167,18 +167,18 @@ module _ {E : Type 0} (layout : Layout E) where
             a.2 ∙ ap g one ∙ sym b.2;
       }
 
-      changed_found : (key : List ℕ) → entries_in layout (map g rows) key ≡ option_map f (was key)
+      changed_found : (key : List ℕ) → entries_of_rows layout (map g rows) key ≡ option_map f (was key)
       changed_found key = go rows same
         where
           go : (rows : List Row) → ((r : Row) → Has rows r → layout.entry (g r) ≡ f (layout.entry r))
-              → entries_in layout (map g rows) key ≡ option_map f (entries_in layout rows key)
+              → entries_of_rows layout (map g rows) key ≡ option_map f (entries_of_rows layout rows key)
           go [] same = refl
           go (r ∷ rows) same =
               let e = layout.entry r in
-              let rest = option_map f (entries_in layout rows key) in
+              let rest = option_map f (entries_of_rows layout rows key) in
               ap₂ (λ x o. cond (has_key layout key x) (Some x) o) (same r (inl refl)) (go rows (λ s h. same s (inr h)))
               ∙ ap (λ k. cond (bytes_eq key k) (Some (f e)) rest) (keeps e)
-              ∙ elim (has_key layout key e) as (λ b. cond b (Some (f e)) rest ≡ option_map f (cond b (Some e) (entries_in layout rows key)))
+              ∙ elim (has_key layout key e) as (λ b. cond b (Some (f e)) rest ≡ option_map f (cond b (Some e) (entries_of_rows layout rows key)))
               [ true ↦ refl | false ↦ refl ]
 
     -- ---- a row is added whose key no other has
@@ -210,7 +210,7 @@ module _ {E : Type 0} (layout : Layout E) where
         ];
       }
 
-      pushed_found : (key : List ℕ) → entries_in layout (rows ++ new ∷ []) key ≡ changed_at (layout.key e) (λ _. Some e) was key
+      pushed_found : (key : List ℕ) → entries_of_rows layout (rows ++ new ∷ []) key ≡ changed_at (layout.key e) (λ _. Some e) was key
       pushed_found key =
           ap (find (has_key layout key)) (map-append layout.entry rows (new ∷ []))
           ∙ find-append (has_key layout key) (map layout.entry rows) (layout.entry new ∷ [])
@@ -228,10 +228,10 @@ module _ {E : Type 0} (layout : Layout E) where
 -- ---- what a statement makes of a table
 
 -- the map that a table is, after a statement that left the other tables as they were
-pub record Makes {E : Type 0} (layout : Layout E) (schema : Schema) (old new : State) (tree : ℕ) (entries : Entries E) : Type 0 where
+pub record Makes {E : Type 0} (layout : Layout E) (schema : Schema) (old new : State) (tree : ℕ) (entries : EntriesByKey E) : Type 0 where
   pub schema_is : new.now.schema ≡ schema
   pub filled : AreFilled layout (new.now.trees tree)
-  pub are : entries_in layout (new.now.trees tree) ≡ entries
+  pub are : entries_of_rows layout (new.now.trees tree) ≡ entries
   pub others : AllByRecursion (λ t. t.tree ≢ tree → new.now.trees t.tree ≡ old.now.trees t.tree) schema.tables
   pub settles : IsSettled old → IsSettled new
 
@@ -242,11 +242,11 @@ pub record IsMapAt {E : Type 0} (layout : Layout E) (schema : Schema) (at : ℕ)
   pub filled : AreFilled layout (s.now.trees table.tree)
 
 -- a query's columns of the entries that pass, each of one row
-pub record ShowsEntries {E : Type 0} (layout : Layout E) (shown : List Term) (params : Row) (q : E → Bool) (entries : Entries E)
+pub record ShowsEntries {E : Type 0} (layout : Layout E) (shown : List Term) (params : Row) (q : E → Bool) (entries : EntriesByKey E)
     (given : List Row) : Type 0 where
   pub sound : (x : Row) → Has given x → (id : ℤ) × (e : E) × (entries (layout.key e) ≡ Some e) × (q e ≡ true)
-      × (x ≡ seen shown params (row_of layout id e))
-  pub complete : (key : List ℕ) (e : E) → entries key ≡ Some e → q e ≡ true → (id : ℤ) × Has given (seen shown params (row_of layout id e))
+      × (x ≡ seen shown params (entry_row layout id e))
+  pub complete : (key : List ℕ) (e : E) → entries key ≡ Some e → q e ≡ true → (id : ℤ) × Has given (seen shown params (entry_row layout id e))
 
 -- rows with one key
 abbrev pub of_key : List Term
@@ -255,14 +255,14 @@ of_key = equals 1 0 ∷ []
 module _ {E : Type 0} (layout : Layout E) (params : Row) where
   -- a test of the rows is one of their entries
   abbrev pub Tests : List Term → (E → Bool) → Type 0
-  Tests tests q = (id : ℤ) (e : E) → passes tests params (row_of layout id e) ≡ q e
+  Tests tests q = (id : ℤ) (e : E) → passes tests params (entry_row layout id e) ≡ q e
 
   module _ (rows : List Row) (filled : AreFilled layout rows) (tests : List Term) (q : E → Bool) (tested : Tests tests q) where
     passes_as : (r : Row) → Has rows r → passes tests params r ≡ q (layout.entry r)
     passes_as r h = let form = filled.formed r h in ap (passes tests params) form.1 ∙ tested form.0 (layout.entry r)
 
     shows_entries : (shown : List Term) (given : List Row) → AreSeen tests shown params rows given
-        → ShowsEntries layout shown params q (entries_in layout rows) given
+        → ShowsEntries layout shown params q (entries_of_rows layout rows) given
     shows_entries shown given h = record {
       sound = λ x k.
           let r = h.sound x k in
@@ -273,7 +273,7 @@ module _ {E : Type 0} (layout : Layout E) (params : Row) where
           let r = row_found layout rows key e is in
           let form = filled.formed r.0 r.1 in
           let there = h.complete r.0 r.1 (passes_as r.0 r.1 ∙ ap q (sym r.2) ∙ ok) in
-          (form.0, subst (Has given) (ap (seen shown params) (form.1 ∙ ap (row_of layout form.0) (sym r.2))) there);
+          (form.0, subst (Has given) (ap (seen shown params) (form.1 ∙ ap (entry_row layout form.0) (sym r.2))) there);
     }
 
 pub passes_key : {E : Type 0} (layout : Layout E) (key : List ℕ) (more : Row) → Tests layout (Text key ∷ more) of_key (has_key layout key)
@@ -284,8 +284,8 @@ module _ {E : Type 0} {layout : Layout E} {schema : Schema} {at : ℕ} {table : 
   abbrev rows : List Row
   rows = old.now.trees table.tree
 
-  abbrev entries : Entries E
-  entries = entries_in layout rows
+  abbrev entries : EntriesByKey E
+  entries = entries_of_rows layout rows
 
   -- however a query ends, what it shows is right, and it leaves all as it was
   pub selects : (tests shown : List Term) (names : List (List ℕ)) (q : E → Bool) → Tests layout params tests q
@@ -299,13 +299,13 @@ module _ {E : Type 0} {layout : Layout E} {schema : Schema} {at : ℕ} {table : 
       (if_ok_then result (λ given h. shows_entries layout params rows site.filled tests q tested shown given.items h) ends.0, ends.1)
 
   module _ (ran : Ran sql params old new) where
-    makes : (left : List Row) (next : Entries E) → Changes schema old new table.tree left → AreFilled layout left
-        → ((key : List ℕ) → entries_in layout left key ≡ next key)
+    makes : (left : List Row) (next : EntriesByKey E) → Changes schema old new table.tree left → AreFilled layout left
+        → ((key : List ℕ) → entries_of_rows layout left key ≡ next key)
         → Makes layout schema old new table.tree next
     makes left next changes are is = record {
       schema_is = changes.schema_is;
       filled = subst (AreFilled layout) (sym changes.rows_are) are;
-      are = ap (entries_in layout) changes.rows_are ∙ (λ i key. is key i);
+      are = ap (entries_of_rows layout) changes.rows_are ∙ (λ i key. is key i);
       others = changes.others;
       settles = changes.settles;
     }
@@ -325,13 +325,13 @@ module _ {E : Type 0} {layout : Layout E} {schema : Schema} {at : ℕ} {table : 
     -- UPDATE changes the entries that pass, and its count says whether there is one
     module _ (tests more : List Term) (q : E → Bool) (f : E → E) (tested : Tests layout params tests q)
         (keeps : (e : E) → layout.key (f e) ≡ layout.key e)
-        (cells : (id : ℤ) (e : E) → cast_row table (drop 1 (seen (col 1 0 ∷ more) params (row_of layout id e))) ≡ row_of layout id (f e))
-        (back : (id : ℤ) (r : Row) → layout.entry (row_of layout id (f (layout.entry r))) ≡ f (layout.entry r))
+        (cells : (id : ℤ) (e : E) → cast_row table (drop 1 (seen (col 1 0 ∷ more) params (entry_row layout id e))) ≡ entry_row layout id (f e))
+        (back : (id : ℤ) (r : Row) → layout.entry (entry_row layout id (f (layout.entry r))) ≡ f (layout.entry r))
         (text : Says schema sql (Update at (those_of table tests (col 1 0 ∷ more)))) where
       abbrev put : Row → Row
       put r = cast_row table (drop 1 (seen (col 1 0 ∷ more) params r))
 
-      put_is : (r : Row) (k : Has rows r) → put r ≡ row_of layout (site.filled.formed r k).0 (f (layout.entry r))
+      put_is : (r : Row) (k : Has rows r) → put r ≡ entry_row layout (site.filled.formed r k).0 (f (layout.entry r))
       put_is r k =
           let form = site.filled.formed r k in
           ap (λ s. cast_row table (drop 1 (seen (col 1 0 ∷ more) params s))) form.1 ∙ cells form.0 (layout.entry r)
@@ -362,7 +362,7 @@ module _ {E : Type 0} {layout : Layout E} {schema : Schema} {at : ℕ} {table : 
 
       form_kept : (r : Row) → Has rows r → IsRowOf layout (changed r)
       form_kept r k = elim (passes tests params r) as (λ b. IsRowOf layout (cond b (put r) r)) [
-        | true ↦ let form = site.filled.formed r k in (form.0, put_is r k ∙ ap (row_of layout form.0) (sym (put_entry r k)))
+        | true ↦ let form = site.filled.formed r k in (form.0, put_is r k ∙ ap (entry_row layout form.0) (sym (put_entry r k)))
         | false ↦ site.filled.formed r k
       ]
 
@@ -379,13 +379,13 @@ module _ {E : Type 0} {layout : Layout E} {schema : Schema} {at : ℕ} {table : 
         → table.is_counted ≡ false
         → value_rows (stamped table params) width (length terms / width) terms ≡ source ∷ []
         → cast_row table source ≡ Null ∷ Text (layout.key e) ∷ layout.rest e
-        → ((id : ℤ) → layout.entry (row_of layout id e) ≡ e) → entries (layout.key e) ≡ None
+        → ((id : ℤ) → layout.entry (entry_row layout id e) ≡ e) → entries (layout.key e) ≡ None
         → Makes layout schema old new table.tree (changed_at (layout.key e) (λ _. Some e) entries)
     inserts_entry terms width source e text uncounted sources cast_is back free =
         let cells = Text (layout.key e) ∷ layout.rest e in
         let id = next_rowid rows in
-        let new_row = row_of layout id e in
-        let form : IsRowOf layout new_row = (id, ap (row_of layout id) (sym (back id))) in
+        let new_row = entry_row layout id e in
+        let form : IsRowOf layout new_row = (id, ap (entry_row layout id) (sym (back id))) in
         let are = pushed_filled layout rows site.filled new_row e (back id) free (pushed_rise rows cells site.filled.rise) form in
         makes (rows ++ new_row ∷ []) _ (inserts sql params old new schema at table site.schema_is site.place ran.0 ran.1 terms width source
         cells text uncounted
@@ -396,7 +396,7 @@ module _ {E : Type 0} {layout : Layout E} {schema : Schema} {at : ℕ} {table : 
 
 module _ {E : Type 0} (layout : Layout E) (rows : List Row) (key other : List ℕ) where
   abbrev entry_at : Option E
-  entry_at = entries_in layout rows other
+  entry_at = entries_of_rows layout rows other
 
   tied : (e : E) → entry_at ≡ Some e → has_key layout key e ≡ bytes_eq key other
   tied e is = ap (bytes_eq key) (sym (row_found layout rows other e is).3)
@@ -415,7 +415,7 @@ module _ {E : Type 0} (layout : Layout E) (rows : List Row) (key other : List �
       ∙ elim (bytes_eq key other) as (λ b. cond (not b) (Some e) None ≡ cond b None (Some e)) [ true ↦ refl | false ↦ refl ]
 
 -- the same map, written otherwise
-makes_as : {E : Type 0} (layout : Layout E) (schema : Schema) (old new : State) (tree : ℕ) (these those : Entries E)
+makes_as : {E : Type 0} (layout : Layout E) (schema : Schema) (old new : State) (tree : ℕ) (these those : EntriesByKey E)
     → ((key : List ℕ) → these key ≡ those key)
     → Makes layout schema old new tree these → Makes layout schema old new tree those
 makes_as layout schema old new tree these those same h = subst (Makes layout schema old new tree) (λ i key. same key i) h
@@ -425,8 +425,8 @@ module _ {E : Type 0} {layout : Layout E} {schema : Schema} {at : ℕ} {table : 
   abbrev given : Row
   given = Text key ∷ more
 
-  abbrev before : Entries E
-  before = entries_in layout (old.now.trees table.tree)
+  abbrev before : EntriesByKey E
+  before = entries_of_rows layout (old.now.trees table.tree)
 
   pub deletes_at : Says schema sql (Delete at (those_of table of_key (col 1 0 ∷ [])))
       → Makes layout schema old new table.tree (changed_at key (λ _. None) before)
@@ -463,8 +463,8 @@ module _ {E : Type 0} {layout : Layout E} {schema : Schema} {at : ℕ} {table : 
 
   -- UPDATE of one key changes its entry, and its count says whether there is one
   pub updates_at : (more_shown : List Term) (f : E → E) → ((e : E) → layout.key (f e) ≡ layout.key e)
-      → ((id : ℤ) (e : E) → cast_row table (drop 1 (seen (col 1 0 ∷ more_shown) given (row_of layout id e))) ≡ row_of layout id (f e))
-      → ((id : ℤ) (r : Row) → layout.entry (row_of layout id (f (layout.entry r))) ≡ f (layout.entry r))
+      → ((id : ℤ) (e : E) → cast_row table (drop 1 (seen (col 1 0 ∷ more_shown) given (entry_row layout id e))) ≡ entry_row layout id (f e))
+      → ((id : ℤ) (r : Row) → layout.entry (entry_row layout id (f (layout.entry r))) ≡ f (layout.entry r))
       → Says schema sql (Update at (those_of table of_key (col 1 0 ∷ more_shown)))
       → Makes layout schema old new table.tree (changed_at key (option_map f) before) × (not (eqb ran.0 0) ≡ is_some (before key))
   updates_at more_shown f keeps cells back text =

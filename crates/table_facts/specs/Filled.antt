@@ -26,12 +26,12 @@ pub record Layout (E : Type 0) : Type 0 where
   pub rest : E → Row
 
 -- the row of an entry, after a rowid
-abbrev pub row_of : {E : Type 0} → Layout E → ℤ → E → Row
-row_of layout id e = Int id ∷ Text (layout.key e) ∷ layout.rest e
+abbrev pub entry_row : {E : Type 0} → Layout E → ℤ → E → Row
+entry_row layout id e = Int id ∷ Text (layout.key e) ∷ layout.rest e
 
 -- a row whose columns are filled
 abbrev pub IsRowOf : {E : Type 0} → Layout E → Row → Type 0
-IsRowOf layout row = (id : ℤ) × (row ≡ row_of layout id (layout.entry row))
+IsRowOf layout row = (id : ℤ) × (row ≡ entry_row layout id (layout.entry row))
 
 -- the rows of a table: their rowids rise, each has its columns filled, and no two have the same key
 pub record AreFilled {E : Type 0} (layout : Layout E) (rows : List Row) : Type 0 where
@@ -40,17 +40,17 @@ pub record AreFilled {E : Type 0} (layout : Layout E) (rows : List Row) : Type 0
   pub once : (r s : Row) → Has rows r → Has rows s → layout.key (layout.entry r) ≡ layout.key (layout.entry s) → r ≡ s
 
 -- an entry for each key that has one
-abbrev pub Entries : Type 0 → Type 0
-Entries E = List ℕ → Option E
+abbrev pub EntriesByKey : Type 0 → Type 0
+EntriesByKey E = List ℕ → Option E
 
 -- whether an entry has this key
 abbrev pub has_key : {E : Type 0} → Layout E → List ℕ → E → Bool
 has_key layout key e = bytes_eq key (layout.key e)
 
 -- the entries of these rows, by their keys
-abbrev pub entries_in : {E : Type 0} → Layout E → List Row → Entries E
-entries_in layout rows key = find (has_key layout key) (map layout.entry rows)
+abbrev pub entries_of_rows : {E : Type 0} → Layout E → List Row → EntriesByKey E
+entries_of_rows layout rows key = find (has_key layout key) (map layout.entry rows)
 
 -- the entries, with what this makes of the one at a key
-abbrev pub changed_at : {E : Type 0} → List ℕ → (Option E → Option E) → Entries E → Entries E
+abbrev pub changed_at : {E : Type 0} → List ℕ → (Option E → Option E) → EntriesByKey E → EntriesByKey E
 changed_at key change entries other = if bytes_eq key other then change (entries other) else entries other

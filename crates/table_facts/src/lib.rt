@@ -2,8 +2,8 @@
 //! statements make of the rows of a table, for every table and every test.
 #![tactic(auto)]
 
-mod refusing;
-mod running;
+mod sqlite_errors;
+mod statement_run;
 
-pub use refusing::Sqlite;
-pub use running::{run, run_alone};
+pub use sqlite_errors::Sqlite;
+pub use statement_run::{run, run_alone};

@@ -13,13 +13,13 @@ use Rattle.sqlite.specs.declared.error.Error.{Error}
 use Rattle.sqlite.specs.State.{State, Shown, FailsToQuery}
 use Rattle.mk_text.specs.Profiles.{numbered_profile}
 use Rattle.mk_paths.specs.SearchPath.{trees_of}
-use Rattle.table_facts.specs.Filled.{bytes_in, number_in, has_key, row_of, entries_in}
+use Rattle.table_facts.specs.Filled.{bytes_in, number_in, has_key, entry_row, entries_of_rows}
 use Rattle.table_facts.specs.States.{IsSettled, Stays}
 use Rattle.table_facts.proofs.Ending.{if_ok_then}
 use Rattle.table_facts.proofs.Keyed.{ShowsEntries, row_found, of_key, passes_key, selects}
 use Rattle.table_facts.proofs.Statements.{AreSeen, seen as columns, query_ends}
 use Rattle.tenant_store.specs.Holdings.{File, map_of}
-use Rattle.tenant_store.specs.Tables.{IsOneRow, IsFormed, file_layout, file_of, settings_of, held_in, store_schema}
+use Rattle.tenant_store.specs.Tables.{IsOneRow, HasStoreTables, file_layout, file_of, settings_of, held_in, store_schema}
 use Rattle.tenant_store.specs.Tables.{select_content, select_settings}
 use Rattle.tenant_store.specs.Tables.{Shows, ShowSettings, IsContent}
 use Rattle.tenant_store.proofs.Fixed.{placed_settings_table, files_site, settings_place, settings_columns, content_text, settings_text}
@@ -27,23 +27,23 @@ use Rattle.tenant_store.proofs.Remapping.{content, get-map_of}
 
 -- the file of this name is what is shown, if it is there
 module _ (name : List ℕ) (rows given : List Row)
-    (h : ShowsEntries file_layout (col 1 2 ∷ []) (Text name ∷ []) (has_key file_layout name) (entries_in file_layout rows) given) where
+    (h : ShowsEntries file_layout (col 1 2 ∷ []) (Text name ∷ []) (has_key file_layout name) (entries_of_rows file_layout rows) given) where
   content_shows : Shows IsContent given (finite.get (map_of (map file_of rows)) name)
   content_shows = record {
-    none = λ empty. get-map_of name (map file_of rows) ∙ go empty (entries_in file_layout rows name) refl;
+    none = λ empty. get-map_of name (map file_of rows) ∙ go empty (entries_of_rows file_layout rows name) refl;
     some = λ x bytes k is.
         let r = h.sound x k in
         let same = (bytes_eq-Decides name r.1.name).0 r.3 in
         let here : r.1.content ≡ bytes = ap bytes_in (ap (λ y. column y 0) (sym r.4) ∙ is) in
-        sym (get-map_of name (map file_of rows) ∙ ap (λ k. content (entries_in file_layout rows k)) same ∙ ap content r.2 ∙ ap Some here);
+        sym (get-map_of name (map file_of rows) ∙ ap (λ k. content (entries_of_rows file_layout rows k)) same ∙ ap content r.2 ∙ ap Some here);
   }
     where
-      go : given ≡ [] → (o : Option File) → entries_in file_layout rows name ≡ o → content o ≡ None
+      go : given ≡ [] → (o : Option File) → entries_of_rows file_layout rows name ≡ o → content o ≡ None
       go empty None is = refl
       go empty (Some f) is =
           let own = (bytes_eq-Decides name f.name).1 (row_found file_layout rows name f is).3 in
           let shown = h.complete name f is own in
-          absurd (subst (λ l. Has l (columns (col 1 2 ∷ []) (Text name ∷ []) (row_of file_layout shown.0 f))) empty shown.1)
+          absurd (subst (λ l. Has l (columns (col 1 2 ∷ []) (Text name ∷ []) (entry_row file_layout shown.0 f))) empty shown.1)
 
 -- a row of a table of one row is that one
 pub only : (rows : List Row) (one : IsOneRow rows) (r : Row) → Has rows r → r ≡ one.row
@@ -77,7 +77,7 @@ first_has (row ∷ rows) d some = inl refl
 
 -- ---- the queries
 
-module _ (old new : State) (result : Result (Vec Row Global) Error) (formed : IsFormed old.now) (settled : IsSettled old)
+module _ (old new : State) (result : Result (Vec Row Global) Error) (formed : HasStoreTables old.now) (settled : IsSettled old)
     (live : IsTrue new.is_open) where
   pub content_ends : (name : List ℕ) → IfOk result (λ rows. Shown select_content (Text name ∷ []) old new rows.items)
       → IfErr result (FailsToQuery select_content (Text name ∷ []) old new)

@@ -11,12 +11,12 @@ use Rattle.sqlite_trees.specs.declared.store.Shape.TheVariants as Shapes
 use Rattle.table_facts.specs.States.{IsSettled, Ran}
 use Rattle.table_facts.proofs.Keyed.{none_filled, cast_null, cast_integer, pushed_rise}
 use Rattle.table_facts.proofs.Statements.{inserts}
-use Rattle.tenant_store.specs.Tables.{IsBare, IsOneRow, Holds, file_layout, file_of, settings_of, insert_settings, store_schema}
+use Rattle.tenant_store.specs.Tables.{IsBare, IsOneRow, HoldsWorld, file_layout, file_of, settings_of, insert_settings, store_schema}
 use Rattle.tenant_store.proofs.Fixed.{first_settings, insert_settings_text, placed_settings_table, settings_place}
 use Rattle.tenant_store.proofs.Keeping.{holds}
 use Rattle.tenant_store.proofs.Worlds.{no_files}
 
-pub inserts_settings : (old new : State) → IsSettled old → IsBare old.now → Ran insert_settings [] old new → Holds new opening_world
+pub inserts_settings : (old new : State) → IsSettled old → IsBare old.now → Ran insert_settings [] old new → HoldsWorld new opening_world
 inserts_settings old new at bare ran =
     let cells = Text (codes "/ports:/mystuff") ∷ Int (pos 1) ∷ [] in
     let rows = old.now.trees 2 in

@@ -12,7 +12,7 @@ use Rattle.table_facts.specs.Tables.{no_schema}
 use Rattle.table_facts.proofs.Creating.{Defines}
 use Rattle.table_facts.proofs.Keyed.{IsMapAt, of_key}
 use Rattle.table_facts.proofs.Statements.{IsTableAt, Says, Queries, those_of}
-use Rattle.tenant_store.specs.Tables.{IsFormed, file_layout, store_schema, file_schema, file_table, settings_table, create_file}
+use Rattle.tenant_store.specs.Tables.{HasStoreTables, file_layout, store_schema, file_schema, file_table, settings_table, create_file}
 use Rattle.tenant_store.specs.Tables.{create_settings}
 use Rattle.tenant_store.specs.Tables.{insert_file, update_file, delete_file, select_content, insert_settings, update_settings}
 use Rattle.tenant_store.specs.Tables.{select_settings}
@@ -21,7 +21,7 @@ use Rattle.tenant_store.specs.Tables.{select_settings}
 abbrev pub placed_settings_table : Table
 placed_settings_table = record settings_table { tree = 2 }
 
-pub files_site : (s : State) → IsFormed s.now → IsMapAt file_layout store_schema 0 file_table s
+pub files_site : (s : State) → HasStoreTables s.now → IsMapAt file_layout store_schema 0 file_table s
 files_site s formed =
     record { schema_is = formed.schema; place = record { listed = refl; free = λ _ _. refl; whole = λ _. refl }; filled = formed.files }
 

@@ -19,11 +19,11 @@ use Rattle.std.specs.String.{string_cmp}
 use Rattle.general_facts.specs.Bools.{Less_from_is_lt, T-left, T-right}
 use Rattle.general_facts.specs.Lists.{list_any-map}
 use Rattle.general_facts.specs.Texts.{bytes_eq-sym}
-use Rattle.mk_files.specs.Limits.{bytes_of, files_with, bytes_with, is_over, passes}
+use Rattle.mk_files.specs.Limits.{bytes_of, files_with, bytes_with, is_over, exceeds_limits}
 use Rattle.mk_files.specs.declared.usage.Usage.{Usage}
 use Rattle.mk_paths.specs.World.{FileMap}
 use Rattle.text_parts.specs.Ordered.{by_bytes, among, same_in_order}
-use Rattle.tenant_store.specs.Lengths.{AreNoted, Lengths, Notes}
+use Rattle.tenant_store.specs.Lengths.{AreNoted, Lengths, NotesLength}
 use Rattle.tenant_store.proofs.Worlds.{len-insert_with, bytes_of-insert, bytes_of-empty, len-remove_there, bytes_of-remove, within_bytes}
 
 -- ---- the keys of a map
@@ -98,14 +98,14 @@ module _ (lengths : Lengths) (usage : Usage) (files : FileMap) (noted : AreNoted
         let low = subst (λ o. unwrap_or o 0 ≤ bytes_of files) (sym had_is) (within_bytes files name) in omega (arith, low, noted.sum)
 
     -- how many files and bytes there would be
-    pub would_be : (content : List ℕ) → passes (files_with usage.files had) (bytes_with usage.bytes had (length content))
+    pub would_be : (content : List ℕ) → exceeds_limits (files_with usage.files had) (bytes_with usage.bytes had (length content))
         ≡ is_over (finite.insert files name content)
     would_be content =
-        ap₂ passes (ap₂ files_with noted.count had_is ∙ sym (len-insert_with files name content))
+        ap₂ exceeds_limits (ap₂ files_with noted.count had_is ∙ sym (len-insert_with files name content))
         (ap₂ (λ b o. bytes_with b o (length content)) noted.sum had_is ∙ sym (bytes_of-insert files name content))
 
     -- another length was noted, and the one that it had is put back
-    pub noted_back : (more left : Lengths) (other : Option ℕ) → Notes lengths more name other → Notes more left name had
+    pub noted_back : (more left : Lengths) (other : Option ℕ) → NotesLength lengths more name other → NotesLength more left name had
         → AreNoted left usage files
     noted_back more left other notes back = record {
       each = λ q. back q ∙ ap (cond (bytes_eq name q) had) (notes q) ∙ same q (bytes_eq name q) refl ∙ noted.each q;
@@ -120,7 +120,7 @@ module _ (lengths : Lengths) (usage : Usage) (files : FileMap) (noted : AreNoted
     -- the length of each file, after one has this content or is gone
     each_after : (m : FileMap) (content : Option (List ℕ)) (next : Lengths)
         → ((q : List ℕ) → finite.get m q ≡ cond (eq_by_cmp by_bytes q name) content (finite.get files q))
-        → Notes lengths next name (option_map length content)
+        → NotesLength lengths next name (option_map length content)
         → (q : List ℕ) → get_by_text next q ≡ option_map length (finite.get m q)
     each_after m content next after notes q =
         notes q ∙ ap (cond (bytes_eq name q) (option_map length content)) (noted.each q)
@@ -129,7 +129,7 @@ module _ (lengths : Lengths) (usage : Usage) (files : FileMap) (noted : AreNoted
         ∙ sym (ap (option_map length) (after q))
 
     -- a file is stored
-    pub noted_with : (content : List ℕ) (more : Lengths) (next : Usage) → Notes lengths more name (Some (length content))
+    pub noted_with : (content : List ℕ) (more : Lengths) (next : Usage) → NotesLength lengths more name (Some (length content))
         → next.files ≡ files_with usage.files had → next.bytes ≡ bytes_with usage.bytes had (length content)
         → AreNoted more next (finite.insert files name content)
     noted_with content more next notes count sum = record {
@@ -147,7 +147,7 @@ module _ (lengths : Lengths) (usage : Usage) (files : FileMap) (noted : AreNoted
       has_one = let less = len-remove_there files name was.0 was.1 in omega (arith, noted.count, less)
 
       -- a file is taken out
-      pub noted_without : (left : Lengths) (next : Usage) → Notes lengths left name None → next.files + 1 ≡ usage.files
+      pub noted_without : (left : Lengths) (next : Usage) → NotesLength lengths left name None → next.files + 1 ≡ usage.files
           → next.bytes + k ≡ usage.bytes → AreNoted left next (finite.remove files name)
       noted_without left next notes count sum = record {
         each = each_after (finite.remove files name) None left (finite.get-remove nat_list_cmp_total files name) notes;

@@ -15,14 +15,14 @@ use Rattle.sqlite_schema.specs.declared.schema.Kind.TheVariants as kind
 use Rattle.sqlite_trees.specs.Tree.{rowid}
 use Rattle.sqlite_rules.specs.Cast.{cast, cast_row}
 use Rattle.sqlite.specs.State.{State}
-use Rattle.table_facts.specs.Filled.{AreFilled, Entries, entries_in}
+use Rattle.table_facts.specs.Filled.{AreFilled, EntriesByKey, entries_of_rows}
 use Rattle.table_facts.specs.States.{Ran}
 use Rattle.table_facts.proofs.Keyed.{IsMapAt, Makes, cast_null, cast_integer, inserts_entry, updates_at, deletes_at}
 use Rattle.table_facts.proofs.Rows.{mapped_rise}
 use Rattle.table_facts.proofs.Statements.{updates}
 use Rattle.tenant_store.specs.Holdings.{File, map_of}
-use Rattle.tenant_store.specs.Tables.{IsSettingsRow, IsOneRow, Holds, IsKept, file_layout, file_of, settings_of, file_table, store_schema}
-use Rattle.tenant_store.specs.Tables.{world_at}
+use Rattle.tenant_store.specs.Tables.{IsSettingsRow, IsOneRow, HoldsWorld, IsStoreAtRest, file_layout, file_of, settings_of, file_table, store_schema}
+use Rattle.tenant_store.specs.Tables.{world_in_state}
 use Rattle.tenant_store.specs.Tables.{insert_file, update_file, delete_file, update_settings}
 use Rattle.tenant_store.proofs.Fixed.{placed_settings_table, files_site, settings_place, given_columns}
 use Rattle.tenant_store.proofs.Fixed.{insert_file_text, update_file_text, delete_file_text, update_settings_text}
@@ -30,27 +30,27 @@ use Rattle.tenant_store.proofs.Answering.{only}
 use Rattle.tenant_store.proofs.Keeping.{holds}
 use Rattle.tenant_store.proofs.Remapping.{content, get-map_of, inserted, removed}
 
-module _ (name : List ℕ) (old new : State) (kept : IsKept old) where
-  abbrev was : Entries File
-  was = entries_in file_layout (old.now.trees 0)
+module _ (name : List ℕ) (old new : State) (kept : IsStoreAtRest old) where
+  abbrev was : EntriesByKey File
+  was = entries_of_rows file_layout (old.now.trees 0)
 
   site : IsMapAt file_layout store_schema 0 file_table old
   site = files_site old kept.formed
 
   -- `file` has other entries, and the settings are as they were
-  files_hold : (files : FileMap) (next : Entries File) → Makes file_layout store_schema old new 0 next
+  files_hold : (files : FileMap) (next : EntriesByKey File) → Makes file_layout store_schema old new 0 next
       → map_of (map file_of (new.now.trees 0)) ≡ files
-      → Holds new (files, (world_at old).1)
+      → HoldsWorld new (files, (world_in_state old).1)
   files_hold files next h own =
       let settings : new.now.trees 2 ≡ old.now.trees 2 = h.others.1.0 (λ e. absurd cc) in
-      holds new (record { files = map file_of (new.now.trees 0); settings = (world_at old).1 }) (files, (world_at old).1)
+      holds new (record { files = map file_of (new.now.trees 0); settings = (world_in_state old).1 }) (files, (world_in_state old).1)
       (h.settles kept.settled)
       (record { schema = h.schema_is; files = h.filled; settings = subst IsOneRow (sym settings) kept.formed.settings })
       (λ i. record { files = map file_of (new.now.trees 0); settings = settings_of (get_or (settings i) 0 []) }) kept.path
-      (λ i. (own i, (world_at old).1))
+      (λ i. (own i, (world_in_state old).1))
 
-  pub inserts_file : (c : List ℕ) → finite.get (files_in (world_at old)) name ≡ None → Ran insert_file (Text name ∷ Blob c ∷ []) old new
-      → Holds new (with_file (world_at old) name c)
+  pub inserts_file : (c : List ℕ) → finite.get (files_in (world_in_state old)) name ≡ None → Ran insert_file (Text name ∷ Blob c ∷ []) old new
+      → HoldsWorld new (with_file (world_in_state old) name c)
   inserts_file c free ran =
       let params = Text name ∷ Blob c ∷ [] in
       let f : File = record { name = name; content = c } in
@@ -58,43 +58,43 @@ module _ (name : List ℕ) (old new : State) (kept : IsKept old) where
       let h = inserts_entry insert_file params old new site ran
       (lit Null ∷ col 0 0 ∷ col 0 1 ∷ []) 3 (Null ∷ params) f insert_file_text refl refl cells (λ _. refl)
       (none_from (was name) (sym (get-map_of name _) ∙ free)) in
-      files_hold (finite.insert (files_in (world_at old)) name c) _ h (inserted name (λ _. Some f) (old.now.trees 0)
+      files_hold (finite.insert (files_in (world_in_state old)) name c) _ h (inserted name (λ _. Some f) (old.now.trees 0)
       (new.now.trees 0) h.are c refl)
     where
       none_from : (o : Option File) → content o ≡ None → o ≡ None
       none_from None none = refl
       none_from (Some f) none = absurd cc
 
-  pub updates_file : (c : List ℕ) → IsTrue (finite.contains_key (files_in (world_at old)) name)
+  pub updates_file : (c : List ℕ) → IsTrue (finite.contains_key (files_in (world_in_state old)) name)
       → Ran update_file (Text name ∷ Blob c ∷ []) old new
-      → Holds new (with_file (world_at old) name c)
+      → HoldsWorld new (with_file (world_in_state old) name c)
   updates_file c there ran =
       let change : File → File = λ f. record f { content = c } in
       let put : Option File → Option File = option_map change in
       let h = (updates_at update_file name (Blob c ∷ []) old new site ran
       (col 1 0 ∷ col 1 1 ∷ col 0 1 ∷ []) change (λ _. refl) (λ id f i. cast_integer id i ∷ Text f.name ∷ Blob c ∷ [])
       (λ _ _. refl) update_file_text).0 in
-      files_hold (finite.insert (files_in (world_at old)) name c) _ h
+      files_hold (finite.insert (files_in (world_in_state old)) name c) _ h
       (inserted name put (old.now.trees 0) (new.now.trees 0) h.are c (replaced (was name) (sym (ap is_some (get-map_of name _)) ∙ there)))
     where
       replaced : (o : Option File) → IsTrue (is_some (content o)) → content (option_map (λ (f : File). record f { content = c }) o) ≡ Some c
       replaced None there = absurd cc
       replaced (Some f) there = refl
 
-  pub deletes_file : Ran delete_file (Text name ∷ []) old new → Holds new (without_file (world_at old) name)
+  pub deletes_file : Ran delete_file (Text name ∷ []) old new → HoldsWorld new (without_file (world_in_state old) name)
   deletes_file ran =
       let h = deletes_at delete_file name [] old new site ran delete_file_text in
-      files_hold (finite.remove (files_in (world_at old)) name) _ h (removed name (λ _. None) (old.now.trees 0)
+      files_hold (finite.remove (files_in (world_in_state old)) name) _ h (removed name (λ _. None) (old.now.trees 0)
       (new.now.trees 0) h.are refl)
 
 -- ---- the settings
 
-module _ (old new : State) (kept : IsKept old) (path : List ℕ) (profile : Profile) (is_path : IsSearchPath (trees_of path)) where
+module _ (old new : State) (kept : IsStoreAtRest old) (path : List ℕ) (profile : Profile) (is_path : IsSearchPath (trees_of path)) where
   abbrev set : Settings
   set = record { path = trees_of path; profile = profile }
 
   pub updates_settings : Ran update_settings (Text path ∷ Int (pos (profile_number profile)) ∷ []) old new
-      → Holds new (files_in (world_at old), set)
+      → HoldsWorld new (files_in (world_in_state old), set)
   updates_settings ran =
       let params = Text path ∷ Int (pos (profile_number profile)) ∷ [] in
       let rows = old.now.trees 2 in
@@ -115,7 +115,7 @@ module _ (old new : State) (kept : IsKept old) (path : List ℕ) (profile : Prof
       let is : settings_of (get_or (map f rows) 0 []) ≡ set =
       ap (λ (l : List Row). settings_of (get_or (map f l) 0 [])) one.rows_are
       ∙ ap (λ (p : Profile). record { path = trees_of path; profile = p }) back in
-      holds new (record { files = map file_of (old.now.trees 0); settings = set }) (files_in (world_at old), set) (h.settles kept.settled)
+      holds new (record { files = map file_of (old.now.trees 0); settings = set }) (files_in (world_in_state old), set) (h.settles kept.settled)
       (record {
         schema = h.schema_is;
         files = subst (AreFilled file_layout) (sym files) kept.formed.files;

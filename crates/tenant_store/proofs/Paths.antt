@@ -8,7 +8,8 @@ use Rattle.std.proofs.lemmas.Bool.{and_parts, and_from}
 use Rattle.std.proofs.lemmas.Bool.Decides.{nat_tests}
 use Rattle.text_parts.specs.Laws.{is_between, are_between, after_marks}
 use Rattle.text_parts.proofs.PartTexts.{written_is_cut_again}
-use Rattle.mk_paths.specs.SearchPath.{colon, trees_of, may_be_in_part, is_part, is_tree, IsSearchPath}
+use Rattle.general_facts.specs.Ascii.{colon}
+use Rattle.mk_paths.specs.SearchPath.{trees_of, may_be_in_part, is_part, is_tree, IsSearchPath}
 
 any : ℕ → Bool
 any byte = true

@@ -2,6 +2,7 @@ pub mod Holdings
 pub mod Tables
 pub mod Lengths
 pub mod Contents
-pub mod Refusing
+pub mod Faults
 pub mod SettingsRows
 pub mod TenantWorld
+pub mod Answers

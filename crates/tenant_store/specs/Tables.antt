@@ -1,12 +1,14 @@
 -- The tables of the store, and what their rows mean.
 use Rattle.std.specs.Prelude.{◌≡◌, ℕ, ℤ, pos, ◌≤◌, codes, List, [], ◌∷◌}
-use Rattle.std.specs.Prelude.{length, map, Option, None, Some, get_or}
+use Rattle.std.specs.Prelude.{length, map, Option, None, Some, get_or, Result, OnOk, Vec, IfOk}
+use Rattle.std.specs.Global.{Global}
+use Rattle.std.specs.FinMap.{get}
 use Rattle.sqlite_value.specs.declared.value.Value.TheVariants.{Int, Text, Blob}
 use Rattle.sqlite_value.specs.Order.{Row, column}
 use Rattle.sqlite_value.specs.Keys.{plain}
 use Rattle.mk_text.specs.Profiles.{profile_number, numbered_profile}
 use Rattle.mk_paths.specs.SearchPath.{trees_of, IsSearchPath}
-use Rattle.mk_paths.specs.World.{World}
+use Rattle.mk_paths.specs.World.{World, with_file, files_in}
 use Rattle.mk_paths.specs.declared.search_path.Settings.{Settings}
 use Rattle.sqlite_trees.specs.Tree.{Trees}
 use Rattle.sqlite_trees.specs.View.{IsShaped}
@@ -101,12 +103,12 @@ abbrev pub holdings_of : Held MemStore → Holdings
 holdings_of connection = held_in (state_of connection)
 
 -- the world that a database in this state holds
-abbrev pub world_at : State → World
-world_at s = world_in (held_in s)
+abbrev pub world_in_state : State → World
+world_in_state s = world_in (held_in s)
 
 -- the world that a connection's database holds
-abbrev pub world_of : Held MemStore → World
-world_of connection = world_at (state_of connection)
+abbrev pub conn_world : Held MemStore → World
+conn_world connection = world_in_state (state_of connection)
 
 -- rows that show what was looked for: if there are no rows, it isn't there; otherwise it is what each of
 -- them reads as
@@ -146,7 +148,7 @@ pub record IsOneRow (rows : List Row) : Type 0 where
   pub formed : IsSettingsRow row
 
 -- a database with the two tables, whose rows have their forms
-pub record IsFormed (db : Database) : Type 0 where
+pub record HasStoreTables (db : Database) : Type 0 where
   pub schema : db.schema ≡ store_schema
   pub files : AreFilled file_layout (db.trees files_at)
   pub settings : IsOneRow (db.trees settings_at)
@@ -158,12 +160,24 @@ pub record IsBare (db : Database) : Type 0 where
   pub settings : db.trees settings_at ≡ []
 
 -- what is so between the calls
-pub record IsKept (s : State) : Type 0 where
+pub record IsStoreAtRest (s : State) : Type 0 where
   pub settled : IsSettled s
-  pub formed : IsFormed s.now
+  pub formed : HasStoreTables s.now
   pub path : IsSearchPath (held_in s).settings.path
 
 -- between the calls, with this world
-pub record Holds (s : State) (world : World) : Type 0 where
-  pub kept : IsKept s
-  pub world_is : world_at s ≡ world
+pub record HoldsWorld (s : State) (world : World) : Type 0 where
+  pub kept : IsStoreAtRest s
+  pub world_is : world_in_state s ≡ world
+
+-- where a function succeeds, the database of this connection holds this world
+abbrev pub LeavesWorld : {R F : Type 0} → Result R F → Held MemStore → World → Type 0
+LeavesWorld result connection world = OnOk result (conn_world connection ≡ world)
+
+-- where a function succeeds, the database holds this file too, in place of one of the same name
+abbrev pub StoresFile : {R F : Type 0} → Result R F → Held MemStore → Held MemStore → List ℕ → List ℕ → Type 0
+StoresFile result old new name content = OnOk result (conn_world new ≡ with_file (conn_world old) name content)
+
+-- where a function succeeds, its rows show the content of this file, or that there is no such file
+abbrev pub ShowsContent : {F : Type 0} → Result (Vec Row Global) F → World → List ℕ → Type 0
+ShowsContent result world name = IfOk result (λ rows. Shows IsContent rows.items (get (files_in world) name))

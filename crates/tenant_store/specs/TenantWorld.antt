@@ -3,7 +3,7 @@ use Rattle.std.specs.Prelude.{◌≡◌, None}
 use Rattle.std.specs.Borrow.{GName, MutBor}
 use Rattle.mk_paths.specs.FilesView.{FilesView}
 use Rattle.mk_paths.specs.World.{World, files_in}
-use Rattle.mk_paths.specs.declared.asking.FilesFault.{FilesFault}
+use Rattle.mk_paths.specs.declared.files.FilesFault.{FilesFault}
 use Rattle.tenant_store.specs.declared.tenant_files.TenantFiles.{TenantFiles}
 
 -- the files of the store, and the failures so far; they keep no log
@@ -15,8 +15,8 @@ abbrev pub opened_files : World → FilesView
 opened_files world = record { files = files_in world; log = None; failures = 0 }
 
 -- the reference to the store that they are in
-abbrev pub name_of : TenantFiles → GName
-name_of files = files.store.ghost_name
+abbrev pub store_reference : TenantFiles → GName
+store_reference files = files.store.ghost_name
 
 -- the world that this store holds
 abbrev pub held_by : TenantFiles → World

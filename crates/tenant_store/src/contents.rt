@@ -1,8 +1,5 @@
 // The contents of files that were read last, which are kept in memory.
-ghost use Rattle.std.specs.Prelude.{◌≡◌, IfOk, IfSome, Some};
-ghost use Rattle.std.specs.FinMap.{get};
-ghost use Rattle.mk_paths.specs.World.{FileMap};
-ghost use Rattle.tenant_store.specs.Contents.{AreContents};
+ghost use Rattle.tenant_store.specs.Contents.{FindsContent, KeepsContents, TakesContent};
 
 use lru::LruCache;
 use mk_files::Content;
@@ -14,10 +11,8 @@ pub(crate) fn kept_content(
     kept: &mut LruCache<String, Content>,
     name: &str,
 ) -> Result<Option<Content>, AllocError>
-    ensures content { (files : FileMap) → AreContents kept.old.entries files
-        → IfOk result (λ found. IfSome found (λ content. get files name.now ≡ Some content)) }
-    ensures kept { (files : FileMap) → AreContents kept.old.entries files
-        → AreContents kept.new.entries files }
+    ensures content { FindsContent result kept.old.entries name.now }
+    ensures kept { KeepsContents kept.old.entries kept.new.entries }
 {
     match kept.get(name) {
         Some(content) => Ok(Some(content.share()?)),
@@ -33,8 +28,7 @@ pub(crate) fn keep_content(
     name: &str,
     content: &Content,
 )
-    ensures { (files : FileMap) → AreContents kept.old.entries files
-        → get files name.now ≡ Some content.now → AreContents kept.new.entries files }
+    ensures { TakesContent kept.old.entries kept.new.entries name.now content.now }
 {
     let Ok(name) = String::from_str(alloc, name) else {
         return;

@@ -20,7 +20,7 @@ pub enum PutFault {
 
 impl From<FilesFault> for PutFault {
     ghost use Rattle.std.specs.Prelude.{◌≡◌};
-    ghost use Rattle.tenant_store.specs.Refusing.{put_fault};
+    ghost use Rattle.tenant_store.specs.Faults.{put_fault};
 
     ghost from_gives = { λ fault result. result ≡ put_fault fault };
 

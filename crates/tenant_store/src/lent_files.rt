@@ -2,7 +2,7 @@
 ghost use Rattle.std.specs.Prelude.{◌≡◌};
 ghost use Rattle.std.specs.Coded.{Coded-set};
 ghost use Rattle.mk_paths.specs.World.{world_code};
-ghost use Rattle.tenant_store.specs.TenantWorld.{view_of, name_of, held_by};
+ghost use Rattle.tenant_store.specs.TenantWorld.{view_of, store_reference, held_by};
 
 use crate::tenant_files::TenantFiles;
 use mk_files::{Content, Files, Listing};
@@ -35,14 +35,14 @@ impl Lent for Brand {
 pub(crate) struct LentFiles<'s, L: Lent> {
     files: TenantFiles<'s>,
     lent: PhantomData<L>,
-    ghost name: { name_of files ≡ L.name },
+    ghost name: { store_reference files ≡ L.name },
     ghost held: { held_by files ≡ L.held } by { Coded-set world_code (held_by files) L.held },
 }
 
 impl<'s, L: Lent> LentFiles<'s, L> {
     /// The same files, over the store that `L` names.
     pub(crate) fn new(files: TenantFiles<'s>) -> LentFiles<'s, L>
-        requires name { name_of files ≡ L.name }
+        requires name { store_reference files ≡ L.name }
         requires held { held_by files ≡ L.held }
         ensures files { view_of result.files ≡ view_of files.entry }
     {
@@ -54,7 +54,7 @@ impl<'s, L: Lent> LentFiles<'s, L> {
 
     /// The files as they were before, with the failures counted since.
     pub(crate) fn into_files(self) -> TenantFiles<'s>
-        ensures name { name_of result ≡ L.name }
+        ensures name { store_reference result ≡ L.name }
         ensures held { held_by result ≡ L.held }
     {
         self.files

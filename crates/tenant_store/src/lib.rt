@@ -1,19 +1,19 @@
 //! The files, the search path and the profile of one tenant, in a database in memory.
 #![tactic(auto)]
 
-mod asking;
-mod changing;
+mod asker;
 mod contents;
 mod faults;
 mod lent_files;
-mod noting;
-mod opening;
-mod reading;
+mod notes;
+mod queries;
+mod settings;
 mod store;
+mod tables;
 mod tenant_files;
-mod writing;
+mod updates;
 
-pub use asking::Asker;
+pub use asker::Asker;
 pub use faults::PutFault;
 pub use store::TenantStore;
 pub use tenant_files::TenantFiles;

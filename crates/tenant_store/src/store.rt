@@ -1,20 +1,21 @@
 // The store as its callers see it.
-ghost use Rattle.std.specs.Prelude.{◌≡◌, false, map, string_bytes, IfOk, IsErrOf, IsTrue, None, OnOk, OnErr};
+ghost use Rattle.std.specs.Prelude.{◌≡◌, map, string_bytes, IfOk, None, OnOk, OnErr};
 ghost use Rattle.std.specs.FinMap.{get, keys, contains_key};
 ghost use Rattle.mk_paths.specs.SearchPath.{IsSearchPath, trees_of};
 ghost use Rattle.mk_paths.specs.World.{files_in, opening_world, with_file, without_file};
 ghost use Rattle.mk_paths.specs.World.{search_path_of, profile_of, with_search_path, with_profile};
-ghost use Rattle.mk_files.specs.Limits.{is_over};
-ghost use Rattle.tenant_store.specs.Tables.{IsKept, world_of};
+ghost use Rattle.tenant_store.specs.Tables.{IsStoreAtRest, conn_world};
 ghost use Rattle.table_facts.specs.States.{state_of};
+ghost use Rattle.tenant_store.specs.Faults.{IsFullWithFile};
+ghost use Rattle.tenant_store.specs.Answers.{GivesContent, FitsWithFile, TellsWhetherThere};
 
-use crate::changing::{set_path, set_profile};
 use crate::contents::{keep_content, kept_content};
 use crate::faults::PutFault;
-use crate::noting::{forget, list_of, note, put_back, without};
-use crate::opening::open;
-use crate::reading::{content_of, settings_row};
-use crate::writing::{delete_file, write_file};
+use crate::notes::{forget, list_of, note, put_back, without};
+use crate::queries::{content_of, settings_row};
+use crate::settings::{set_path, set_profile};
+use crate::tables::open;
+use crate::updates::{delete_file, write_file};
 use lru::LruCache;
 use mk_files::{Content, Usage};
 use mk_paths::{FilesFault, Name, PathFault, SearchPath, Settings};
@@ -46,17 +47,17 @@ impl Model for TenantStore {
     ghost use Rattle.sqlite.specs.Steps.{over_memory};
     ghost use Rattle.tenant_store.specs.Contents.{AreContents};
     ghost use Rattle.tenant_store.specs.Lengths.{AreNoted};
-    ghost use Rattle.tenant_store.specs.Tables.{world_at, IsKept};
+    ghost use Rattle.tenant_store.specs.Tables.{world_in_state, IsStoreAtRest};
 
     ghost Value = { World };
 
     ghost coded = { world_code };
 
-    ghost view = { λ store. world_at (state over_memory store.conn) };
+    ghost view = { λ store. world_in_state (state over_memory store.conn) };
 
-    ghost invariant = { λ store. IsKept (state over_memory store.conn)
-        × AreNoted store.lengths store.usage (files_in (world_at (state over_memory store.conn)))
-        × AreContents store.contents.entries (files_in (world_at (state over_memory store.conn))) };
+    ghost invariant = { λ store. IsStoreAtRest (state over_memory store.conn)
+        × AreNoted store.lengths store.usage (files_in (world_in_state (state over_memory store.conn)))
+        × AreContents store.contents.entries (files_in (world_in_state (state over_memory store.conn))) };
 }
 
 impl TenantStore {
@@ -90,10 +91,8 @@ impl TenantStore {
     /// `Memory` if memory runs out. After an error nothing has changed.
     pub fn put_file(&mut self, name: &Name, content: &[u8]) -> Result<(), PutFault>
         ensures stored { OnOk result (self.new ≡ with_file self.old name.now content.now) }
-        ensures fits { OnOk result (is_over
-            (files_in (with_file self.old name.now content.now)) ≡ false) }
-        ensures full { IsErrOf result PutFault.Full
-            → IsTrue (is_over (files_in (with_file self.old name.now content.now))) }
+        ensures fits { FitsWithFile result self.old name.now content.now }
+        ensures full { IsFullWithFile result self.old name.now content.now }
         ensures err { OnErr result (self.new ≡ self.old) }
     {
         let text = name.as_str();
@@ -122,8 +121,7 @@ impl TenantStore {
     /// `Store` if the database refuses a statement, and `Memory` if memory runs out. After an error
     /// nothing has changed.
     pub fn remove_file(&mut self, name: &Name) -> Result<bool, FilesFault>
-        ensures was_there { IfOk result (λ there. there
-            ≡ contains_key (files_in self.old) name.now) }
+        ensures was_there { TellsWhetherThere result self.old name.now }
         ensures removed { OnOk result (self.new ≡ without_file self.old name.now) }
         ensures err { OnErr result (self.new ≡ self.old) }
     {
@@ -219,7 +217,7 @@ impl TenantStore {
     ///
     /// `Store` if the database refuses a statement, and `Memory` if memory runs out.
     pub fn settings(&mut self, alloc: Global) -> Result<Settings, FilesFault>
-        ensures path { IfOk result (λ settings. settings.path ≡ search_path_of self.old) }
+        ensures path { IfOk result (λ found. found.path ≡ search_path_of self.old) }
         ensures profile { IfOk result (λ settings. settings.profile ≡ profile_of self.old) }
         ensures same { self.new ≡ self.old }
     {
@@ -254,10 +252,10 @@ fn stored_content(
     alloc: Global,
     name: &str,
 ) -> Result<Option<Content>, FilesFault>
-    requires { IsKept (state_of conn.old) }
-    ensures content { IfOk result (λ content. content ≡ get (files_in (world_of conn.old)) name.now) }
-    ensures kept { IsKept (state_of conn.new) }
-    ensures same { world_of conn.new ≡ world_of conn.old }
+    requires { IsStoreAtRest (state_of conn.old) }
+    ensures content { GivesContent result (conn_world conn.old) name.now }
+    ensures kept { IsStoreAtRest (state_of conn.new) }
+    ensures same { conn_world conn.new ≡ conn_world conn.old }
 {
     match content_of(conn, name) {
         Ok(Some(bytes)) => Ok(Some(Content::new(alloc, bytes)?)),
@@ -268,11 +266,11 @@ fn stored_content(
 
 // The settings.
 fn settings_of(conn: &mut Connection<MemStore>, alloc: Global) -> Result<Settings, FilesFault>
-    requires { IsKept (state_of conn.old) }
-    ensures path { IfOk result (λ settings. settings.path ≡ search_path_of (world_of conn.old)) }
-    ensures profile { IfOk result (λ settings. settings.profile ≡ profile_of (world_of conn.old)) }
-    ensures kept { IsKept (state_of conn.new) }
-    ensures same { world_of conn.new ≡ world_of conn.old }
+    requires { IsStoreAtRest (state_of conn.old) }
+    ensures path { IfOk result (λ found. found.path ≡ search_path_of (conn_world conn.old)) }
+    ensures profile { IfOk result (λ found. found.profile ≡ profile_of (conn_world conn.old)) }
+    ensures kept { IsStoreAtRest (state_of conn.new) }
+    ensures same { conn_world conn.new ≡ conn_world conn.old }
 {
     match settings_row(conn) {
         Ok(settings) => Ok(Settings {

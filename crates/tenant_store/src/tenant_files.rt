@@ -1,7 +1,7 @@
 // The files of the store, as a world that can be read and listed.
-ghost use Rattle.std.specs.Prelude.{◌≡◌, map, string_bytes, IfOk, OnOk, OnErr};
-ghost use Rattle.std.specs.FinMap.{keys};
-ghost use Rattle.mk_paths.specs.FilesView.{Contents, Presence, Answers, Fails, IsReply};
+ghost use Rattle.std.specs.Prelude.{◌≡◌, OnOk, OnErr};
+ghost use Rattle.mk_paths.specs.FilesView.{Presence, Fails, IsReply};
+ghost use Rattle.tenant_store.specs.Answers.{AnswersContent, ListsFiles};
 
 use crate::store::TenantStore;
 use mk_files::{Content, Files, Listing};
@@ -50,8 +50,7 @@ impl<'s> TenantFiles<'s> {
 
     // The content of the file of this name; `None` if it isn't there.
     pub(crate) fn content(&mut self, name: &Name) -> Result<Option<Content>, FilesFault>
-        ensures content { IfOk result (λ content. Answers (view_of self.old)
-            (view_of self.new) name.now (Contents content)) }
+        ensures content { AnswersContent result (view_of self.old) (view_of self.new) name.now }
         ensures fault { OnErr result (Fails (view_of self.old) (view_of self.new)) }
         ensures stays { StaysOver self.old self.new }
     {
@@ -63,8 +62,7 @@ impl<'s> TenantFiles<'s> {
 
     // The names of all files, in the order of their bytes.
     pub(crate) fn listed(&mut self, alloc: Global) -> Result<Vec<String>, FilesFault>
-        ensures names { IfOk result (λ names. map string_bytes names.items
-            ≡ keys (view_of self.old).files) }
+        ensures names { ListsFiles result (view_of self.old).files }
         ensures same { OnOk result (view_of self.new ≡ view_of self.old) }
         ensures fault { OnErr result (Fails (view_of self.old) (view_of self.new)) }
         ensures stays { StaysOver self.old self.new }

@@ -15,7 +15,7 @@ use Rattle.general_facts.specs.Texts.{bytes_eq-sym}
 use Rattle.mk_paths.specs.World.{World, files_in, with_file, without_file}
 use Rattle.mk_paths.specs.declared.search_path.Settings.{Settings}
 use Rattle.index_keep.specs.Right.{DifferAt}
-use Rattle.index_keep.specs.Keeping.{IsKept, rows_of, begun_in, refresh_of}
+use Rattle.index_keep.specs.Keeper.{IsKept, keeper_rows, begun_in, refresh_of}
 use Rattle.index_keep.specs.Shown.{ShowsSame}
 use Rattle.index_keep.specs.Turns.{RefreshView, refresh_at}
 use Rattle.index_store.specs.PortTable.{stored_by}
@@ -23,7 +23,7 @@ use Rattle.index_store.specs.PortTable.{Entry}
 use Rattle.index_keep.specs.declared.keeper.Keeper.{Keeper}
 use Rattle.tenant_worlds.specs.declared.tenant.Tenant.{Tenant}
 use Rattle.tenant_worlds.specs.declared.tenant.TenantJob.{TenantJob}
-use Rattle.tenant_worlds.specs.Kept.{IsJobOver, IsRight, AreRight, world_of}
+use Rattle.tenant_worlds.specs.Kept.{IsJobOver, IsRightTenant, AreRightTenants, world_of}
 
 pub get-set_same : {A : Type 0} (items : List A) (t : ℕ) (item : A) → t < length items → slice_get (slice_set items t item) t ≡ Some item
 get-set_same [] t item within = absurd omega (arith, within)
@@ -48,33 +48,33 @@ pub some_same : {A : Type 0} {x y : A} → ◌≡◌ {A = Option A} (Some x) (So
 some_same e = cc
 
 -- one tenant changes and is right; so are the others
-pub set_right : (tenants : List Tenant) (t : ℕ) (tenant : Tenant) → t < length tenants → AreRight tenants → IsRight tenant → AreRight (slice_set tenants t tenant)
+pub set_right : (tenants : List Tenant) (t : ℕ) (tenant : Tenant) → t < length tenants → AreRightTenants tenants → IsRightTenant tenant → AreRightTenants (slice_set tenants t tenant)
 set_right tenants t tenant within others right u other there = elim (cases_Bool (u == t)) [
   | inl is ↦
       let same : u ≡ t = grind (arith, nat_tests) in
       let this : tenant ≡ other = some_same (sym (get-set_same tenants t tenant within) ∙ ap (slice_get (slice_set tenants t tenant)) (sym same) ∙ there) in
-      subst IsRight this right
+      subst IsRightTenant this right
   | inr not ↦
       let apart : u ≢ t = λ e. absurd grind (arith, nat_tests) in
       others u other (sym (get-set_other tenants t u tenant apart) ∙ there)
 ]
 
 -- the tenant at a place is right
-pub right_at : (tenants : List Tenant) (t : ℕ) (any : Tenant) → t < length tenants → AreRight tenants → IsRight (get_or tenants t any)
+pub right_at : (tenants : List Tenant) (t : ℕ) (any : Tenant) → t < length tenants → AreRightTenants tenants → IsRightTenant (get_or tenants t any)
 right_at tenants t any within kept = kept t (get_or tenants t any) (slice_get-get_or tenants t any within)
 
 -- one tenant more that is right
-pub added_right : (tenants : List Tenant) (tenant : Tenant) → AreRight tenants → IsRight tenant → AreRight (tenants ++ tenant ∷ [])
-added_right [] tenant kept right zero other there = subst IsRight (some_same there) right
+pub added_right : (tenants : List Tenant) (tenant : Tenant) → AreRightTenants tenants → IsRightTenant tenant → AreRightTenants (tenants ++ tenant ∷ [])
+added_right [] tenant kept right zero other there = subst IsRightTenant (some_same there) right
 added_right [] tenant kept right (suc u) other there = absurd cc
 added_right (first ∷ tenants) tenant kept right zero other there = kept 0 other there
 added_right (first ∷ tenants) tenant kept right (suc u) other there = added_right tenants tenant (λ v k is. kept (suc v) k is) right u other there
 
 -- over the same world, a keeper that shows the same, with as much begun, keeps the tenant right
 pub limited
-    : (tenant : Tenant) (world : World) (keeper : Keeper (List Entry)) → world ≡ world_of tenant → ShowsSame (rows_of stored_by tenant.keeper) (rows_of stored_by keeper)
+    : (tenant : Tenant) (world : World) (keeper : Keeper (List Entry)) → world ≡ world_of tenant → ShowsSame (keeper_rows stored_by tenant.keeper) (keeper_rows stored_by keeper)
     → begun_in keeper.progress ≡ begun_in tenant.keeper.progress → (IsKept stored_by (world_of tenant) tenant.keeper → IsKept stored_by (world_of tenant) keeper)
-    → IsRight tenant → IsRight (record tenant { store = world; keeper = keeper })
+    → IsRightTenant tenant → IsRightTenant (record tenant { store = world; keeper = keeper })
 limited tenant world keeper same_world rows begun kept is =
     let same : refresh_of stored_by keeper ≡ refresh_of stored_by tenant.keeper = λ i. refresh_at (λ path. rows path i) (begun i) in
     record {
@@ -117,7 +117,7 @@ kept_by_put (Err fault) old new name content keeper is same told kept = subst (�
 
 -- a tenant without a job is right if its settings are its world's, and its keeper is right about this world
 pub idle_right : (world : World) (settings : Settings) (keeper : Keeper (List Entry)) (job : Option TenantJob) → job ≡ None → settings ≡ world.1 → IsKept stored_by world keeper
-    → IsRight (record { store = world; settings = settings; keeper = keeper; job = job })
+    → IsRightTenant (record { store = world; settings = settings; keeper = keeper; job = job })
 idle_right world settings keeper job none same kept = record {
   settings = same;
   keeper = kept;

@@ -8,11 +8,11 @@ use Rattle.mk_paths.specs.World.{World}
 use Rattle.ports_index.specs.Efforts.{has_makefile}
 use Rattle.ports_index.specs.PathOutcomes.{Absent}
 use Rattle.index_store.specs.PortTable.{stored_by}
-use Rattle.index_keep.specs.Keeping.{rows_of}
+use Rattle.index_keep.specs.Keeper.{keeper_rows}
 use Rattle.index_keep.specs.Shown.{ShownRow, ShownRows, ShowsSame, fresh_outcome}
 use Rattle.index_keep.specs.Turns.{StayFresh}
 use Rattle.tenant_worlds.specs.declared.tenant.Tenant.{Tenant}
-use Rattle.tenant_worlds.specs.Marking.{KeepRows}
+use Rattle.tenant_worlds.specs.RowMarks.{KeepRows}
 use Rattle.tenant_worlds.proofs.KeptLemmas.{get-set_other, get-set_same, some_same}
 
 -- rows that are shown the same
@@ -28,19 +28,19 @@ fresh-after world old middle new same more path needed is = more path needed (fr
 rows_stay : (tenants : List Tenant) → KeepRows tenants tenants
 rows_stay tenants u before after was becomes =
     let is : before ≡ after = some_same (sym was ∙ becomes) in
-    subst (λ (one : Tenant). ShowsSame (rows_of stored_by before.keeper) (rows_of stored_by one.keeper)) is (λ path. refl)
+    subst (λ (one : Tenant). ShowsSame (keeper_rows stored_by before.keeper) (keeper_rows stored_by one.keeper)) is (λ path. refl)
 
 -- one tenant changes, and its rows are shown the same
 pub rows_kept
-    : (tenants : List Tenant) (t : ℕ) (any tenant : Tenant) → t < length tenants → ShowsSame (rows_of stored_by (get_or tenants t any).keeper) (rows_of stored_by tenant.keeper)
+    : (tenants : List Tenant) (t : ℕ) (any tenant : Tenant) → t < length tenants → ShowsSame (keeper_rows stored_by (get_or tenants t any).keeper) (keeper_rows stored_by tenant.keeper)
     → KeepRows tenants (slice_set tenants t tenant)
 rows_kept tenants t any tenant within same u before after was becomes = elim (cases_Bool (u == t)) [
   | inl is ↦
       let here : u ≡ t = grind (arith, nat_tests) in
       let old : get_or tenants t any ≡ before = some_same (sym (slice_get-get_or tenants t any within) ∙ ap (slice_get tenants) (sym here) ∙ was) in
       let new : tenant ≡ after = some_same (sym (get-set_same tenants t tenant within) ∙ ap (slice_get (slice_set tenants t tenant)) (sym here) ∙ becomes) in
-      subst (λ (one : Tenant). ShowsSame (rows_of stored_by one.keeper) (rows_of stored_by after.keeper)) old
-      (subst (λ (one : Tenant). ShowsSame (rows_of stored_by (get_or tenants t any).keeper) (rows_of stored_by one.keeper)) new same)
+      subst (λ (one : Tenant). ShowsSame (keeper_rows stored_by one.keeper) (keeper_rows stored_by after.keeper)) old
+      (subst (λ (one : Tenant). ShowsSame (keeper_rows stored_by (get_or tenants t any).keeper) (keeper_rows stored_by one.keeper)) new same)
   | inr not ↦
       let apart : u ≢ t = λ e. absurd grind (arith, nat_tests) in
       rows_stay tenants u before after was (sym (get-set_other tenants t u tenant apart) ∙ becomes)

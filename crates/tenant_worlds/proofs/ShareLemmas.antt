@@ -1,8 +1,8 @@
 -- What the tenants share, as their cache is used.
 use Rattle.std.proofs.Common.{◌≡◌, ◌∙◌, ◌<◌, ◌^◌, ◌&&◌, ℕ, zero, suc, Bool, true, false, ap, ap₂, refl, arith}
 use Rattle.eval_cache.specs.Cache.{CacheValue, Sizes, size_for, empty_cache}
-use Rattle.eval_cache.specs.declared.counting.Counts.{Counts}
-use Rattle.eval_cache.specs.Using.{UsesCache}
+use Rattle.eval_cache.specs.declared.counts.Counts.{Counts}
+use Rattle.eval_cache.specs.CacheUse.{UsesCache}
 use Rattle.ports_core.specs.Keys.{is_size, is_fit}
 use Rattle.ports_core.specs.Sharing as sharing
 use Rattle.ports_core.specs.Sharing.{Sharing, IsUsed, sizes_of, unused}

@@ -7,19 +7,20 @@ use Rattle.std.proofs.lemmas.Option.{slice_get-map, slice_get-get_or}
 use Rattle.mk_paths.specs.World.{World, opening_world}
 use Rattle.mk_paths.specs.declared.search_path.Settings.{Settings}
 use Rattle.ports_http.specs.Messages.{RequestMessage, ReplyMessage}
-use Rattle.ports_plain.specs.declared.changing.Change.{Change}
-use Rattle.ports_plain.specs.Changing.{settle_change}
-use Rattle.ports_plain.specs.Plain.{PlainRequest, Served, plain, answer}
-use Rattle.ports_core.specs.Answering.{Answers, AnswersFor, plain_request_of, plain_answer}
-use Rattle.ports_core.specs.Charging.{Spends, MayHaveHad, Charges, ChargesFor, GoesOn}
+use Rattle.ports_plain.specs.declared.change.Change.{Change}
+use Rattle.ports_plain.specs.Change.{settle_change}
+use Rattle.ports_plain.specs.Requests.{PlainRequest}
+use Rattle.ports_plain.specs.Plain.{Served, plain}
+use Rattle.ports_core.specs.Answers.{AnswersRequest, AnswersFor, plain_request_of, plain_answer}
+use Rattle.ports_core.specs.Charges.{SpendsOnRequest, MayHaveHad, Charges, ChargesFor, LeavesUnanswered}
 use Rattle.ports_core.specs.Jobs.{TenantJob, had_by, one_turn_more, spent_on}
 use Rattle.ports_core.specs.declared.tenants.Answer.{Answer}
-use Rattle.ports_core.specs.Telling.{is_failure}
-use Rattle.ports_index.specs.Spending.{no_spending, spent_together}
-use Rattle.ports_index.specs.declared.spending.Spent.{Spent}
+use Rattle.ports_core.specs.Tell.{is_failure}
+use Rattle.ports_index.specs.Spent.{no_spending, spent_together}
+use Rattle.ports_index.specs.declared.spent.Spent.{Spent}
 use Rattle.tenant_worlds.specs.declared.tenant.Tenant.{Tenant}
 use Rattle.tenant_worlds.specs.Kept.{world_of, worlds_of, world_at, HaveOpeningWorlds}
-use Rattle.tenant_worlds.specs.Turning.{AnswersOver, ChargesOver}
+use Rattle.tenant_worlds.specs.Turn.{AnswersOver, ChargesOver}
 use Rattle.tenant_worlds.proofs.KeptLemmas.{get-set_same, some_same}
 
 pub if_ok : {A E : Type 0} {P Q : A → Type 0} (r : Result A E) → ((a : A) → P a → Q a) → IfOk r P → IfOk r Q
@@ -111,7 +112,7 @@ module _ (old new : List Tenant) (t : ℕ) (within : t < length old) (count : le
   abbrev becomes : slice_get (worlds_of new) t ≡ Some (world_at t new)
   becomes = world_listed new t (omega (arith, within, count))
 
-  pub answers_for : (request : RequestMessage) (reply : ReplyMessage) → Answers (world_at t old) request reply (world_at t new) → AnswersFor t request reply (worlds_of old) (worlds_of new)
+  pub answers_for : (request : RequestMessage) (reply : ReplyMessage) → AnswersRequest (world_at t old) request reply (world_at t new) → AnswersFor t request reply (worlds_of old) (worlds_of new)
   answers_for request reply answers = record {
     world = world_at t old;
     was = was;
@@ -133,10 +134,10 @@ module _ (old new : List Tenant) (t : ℕ) (within : t < length old) (count : le
 
   charges : (request : RequestMessage) (reply : ReplyMessage) (before spent : Spent)
       → ((world : World) (request : PlainRequest) → ((plain world request).0.status == 503) ≡ false)
-      → plain_answer (world_at t old) request ≡ (reply, world_at t new) → Spends (world_at t old) request (spent_together before spent) → Charges (world_at t old) request reply before spent
+      → plain_answer (world_at t old) request ≡ (reply, world_at t new) → SpendsOnRequest (world_at t old) request (spent_together before spent) → Charges (world_at t old) request reply before spent
   charges request reply before spent never is spends =
       let fine : is_failure reply.status ≡ false = ap (λ (end : Served). is_failure end.0.status) (sym is) ∙ never (world_at t old) (plain_request_of request) in
-      subst (λ failed. MatchBool failed (spent ≡ no_spending) (Spends (world_at t old) request (spent_together before spent))) (sym fine) spends
+      subst (λ failed. MatchBool failed (spent ≡ no_spending) (SpendsOnRequest (world_at t old) request (spent_together before spent))) (sym fine) spends
 
   -- what was spent with an answer is what is told
   pub work_charges : (request : RequestMessage) (reply : Option Answer) (job : Option TenantJob) (spent : Spent)
@@ -159,7 +160,7 @@ module _ (old new : List Tenant) (t : ℕ) (within : t < length old) (count : le
   -- without an answer no world changes, and the request has had no more than it may
   pub work_goes_on : (request : RequestMessage) (reply : Option Answer) (job : Option TenantJob) (spent : Spent)
       → IfNone reply (world_at t new ≡ world_at t old) → ChargesOver (world_at t old) request job reply spent
-      → IfNone reply (GoesOn t request (had_by job) spent (worlds_of old) (worlds_of new))
+      → IfNone reply (LeavesUnanswered t request (had_by job) spent (worlds_of old) (worlds_of new))
   work_goes_on request None job spent silent charged = record {
     worlds = same_worlds silent;
     within = λ world there. subst (λ (w : World). MayHaveHad w request (one_turn_more (had_by job) spent)) (this_world world there) charged;

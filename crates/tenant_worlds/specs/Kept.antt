@@ -2,13 +2,13 @@
 use Rattle.std.specs.Prelude.{◌≡◌, ℕ, ◌<◌, ◌+◌, List, length, map, replicate, slice_get}
 use Rattle.std.specs.Prelude.{Option, Some, None, option_map, unwrap_or, IfSome}
 use Rattle.mk_paths.specs.World.{World, opening_world}
-use Rattle.ports_plain.specs.Resting.{turns_for}
+use Rattle.ports_plain.specs.AnswerCosts.{turns_for}
 use Rattle.ports_core.specs.Jobs as jobs
 use Rattle.ports_core.specs.Jobs.{job_in}
 use Rattle.index_store.specs.PortTable.{stored_by}
-use Rattle.index_keep.specs.Keeping.{IsKept, refresh_of, size_at_hand}
+use Rattle.index_keep.specs.Keeper.{IsKept, refresh_of, size_at_hand}
 use Rattle.index_keep.specs.Turns.{RefreshView}
-use Rattle.kept_ports.specs.Pending.{IsPending, question_in}
+use Rattle.kept_ports.specs.UnderWay.{IsUnderWayOver, question_in}
 use Rattle.kept_ports.specs.TurnsLeft.{turns_left}
 use Rattle.tenant_worlds.specs.declared.tenant.TenantJob.{TenantJob}
 use Rattle.tenant_worlds.specs.declared.tenant.Tenant.{Tenant}
@@ -27,7 +27,7 @@ job_of tenant = option_map seen_job tenant.job
 -- What is under way is right, by how far the refresh of the index is. With the turns that the question has had, the
 -- turns that may follow without an answer are fewer than those within which it is told its reply.
 pub record IsJobOver (world : World) (refresh : RefreshView) (job : TenantJob) : Type 0 where
-  pub pending : IsPending world refresh job.under_way
+  pub pending : IsUnderWayOver world refresh job.under_way
   pub in_time : job.turns + turns_left world refresh job.under_way < turns_for world (question_in job.under_way)
 
 -- the world of a tenant: its files and its settings
@@ -39,7 +39,7 @@ abbrev pub index_size : Tenant → Option ℕ
 index_size tenant = size_at_hand tenant.keeper
 
 -- The settings are those of the tenant's world, the keeper is right about this world, and the job is one over it.
-pub record IsRight (tenant : Tenant) : Type 0 where
+pub record IsRightTenant (tenant : Tenant) : Type 0 where
   pub settings : tenant.settings ≡ (world_of tenant).1
   pub keeper : IsKept stored_by (world_of tenant) tenant.keeper
   pub pending : IfSome tenant.job (IsJobOver (world_of tenant) (refresh_of stored_by tenant.keeper))
@@ -50,8 +50,8 @@ pub record IsIdle (world : World) (tenant : Tenant) : Type 0 where
   pub none : tenant.job ≡ None
 
 -- each tenant is right
-abbrev pub AreRight : List Tenant → Type 0
-AreRight tenants = (t : ℕ) (tenant : Tenant) → slice_get tenants t ≡ Some tenant → IsRight tenant
+abbrev pub AreRightTenants : List Tenant → Type 0
+AreRightTenants tenants = (t : ℕ) (tenant : Tenant) → slice_get tenants t ≡ Some tenant → IsRightTenant tenant
 
 -- the worlds of the tenants, by the tenants' numbers
 abbrev pub worlds_of : List Tenant → List World

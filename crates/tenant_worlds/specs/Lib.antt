@@ -1,6 +1,6 @@
 pub mod Kept
 pub mod Shared
 pub mod Prepared
-pub mod Turning
+pub mod Turn
 pub mod Stored
-pub mod Marking
+pub mod RowMarks

@@ -1,14 +1,14 @@
 -- A turn for a question over the files of a tenant.
 use Rattle.std.specs.Prelude.{◌≡◌, IfOk, IfSome, IsSome}
 use Rattle.mk_paths.specs.World.{World, FileMap}
-use Rattle.eval_cache.specs.Using.{UsesCache}
+use Rattle.eval_cache.specs.CacheUse.{UsesCache}
 use Rattle.index_store.specs.PortTable.{stored_by}
-use Rattle.index_keep.specs.Keeping.{refresh_of, rows_of, IsKept}
+use Rattle.index_keep.specs.Keeper.{refresh_of, keeper_rows, IsKept}
 use Rattle.index_keep.specs.Turns.{StayFresh}
-use Rattle.kept_ports.specs.Pending.{IsPending}
+use Rattle.kept_ports.specs.UnderWay.{IsUnderWayOver}
 use Rattle.kept_ports.specs.TurnsLeft.{TurnsOn}
 use Rattle.kept_ports.specs.declared.under_way.UnderWay.{UnderWay}
-use Rattle.tenant_worlds.specs.declared.asking.Asking.{Asking}
+use Rattle.tenant_worlds.specs.declared.turn.Asking.{Asking}
 
 -- the world of these files, and of the settings with which a question is asked
 abbrev pub world_asked : FileMap → Asking → World
@@ -19,7 +19,7 @@ pub record IsReady (files : FileMap) (asking : Asking) : Type 0 where
   pub there : IsSome asking.turn.now.under_way
   pub kept : IsKept stored_by (world_asked files asking) asking.keeper.now
   pub pending : IfSome asking.turn.now.under_way
-      (IsPending (world_asked files asking) (refresh_of stored_by asking.keeper.now))
+      (IsUnderWayOver (world_asked files asking) (refresh_of stored_by asking.keeper.now))
 
 -- what the turn came to is a turn for what was under way
 abbrev pub IsTurnOf : FileMap → Asking → Asking → UnderWay → Type 0
@@ -33,7 +33,7 @@ pub record IsAsked (files : FileMap) (old new : Asking) : Type 0 where
   pub taken : IsSome new.turn.now.turned
   pub turn : IfSome old.turn.now.under_way (IsTurnOf files old new)
   pub kept : IsKept stored_by (world_asked files old) new.keeper.now
-  pub fresh : StayFresh (world_asked files old) (rows_of stored_by old.keeper.now) (rows_of stored_by new.keeper.now)
+  pub fresh : StayFresh (world_asked files old) (keeper_rows stored_by old.keeper.now) (keeper_rows stored_by new.keeper.now)
   pub keeper : new.keeper.ghost_name ≡ old.keeper.ghost_name
   pub place : new.turn.ghost_name ≡ old.turn.ghost_name
   pub cache : new.cache.ghost_name ≡ old.cache.ghost_name

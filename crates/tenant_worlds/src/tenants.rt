@@ -1,15 +1,13 @@
 //! The tenants, by their numbers.
-ghost use Rattle.std.specs.Prelude.{◌≡◌, ◌≢◌, ◌<◌, ℕ, [], ◌∷◌, ◌++◌, None, length, option_and_then, slice_get};
+ghost use Rattle.std.specs.Prelude.{◌≡◌, ◌<◌, [], ◌∷◌, ◌++◌, None, length, option_and_then, slice_get};
 ghost use Rattle.std.specs.Prelude.{IfOk, OnOk, OnErr};
-ghost use Rattle.eval_cache.specs.Using.{UsesCache};
+ghost use Rattle.eval_cache.specs.CacheUse.{UsesCache};
 ghost use Rattle.mk_paths.specs.World.{opening_world};
-ghost use Rattle.ports_plain.specs.Questions.{question_of};
-ghost use Rattle.ports_core.specs.Answering.{plain_request_of};
 ghost use Rattle.ports_core.specs.Jobs.{IsForRequest};
-ghost use Rattle.tenant_worlds.specs.Kept.{AreRight, IsIdle, IsRight, HaveNoJob, HaveOpeningWorlds, KeepJobs, KeepWorlds};
+ghost use Rattle.tenant_worlds.specs.Kept.{AreRightTenants, IsIdle, IsRightTenant, HaveNoJob, HaveOpeningWorlds, KeepJobs, KeepWorlds};
 ghost use Rattle.tenant_worlds.specs.Kept.{index_size, job_at, world_at};
-ghost use Rattle.tenant_worlds.specs.Marking.{KeepRows, LeaveRowsAt};
-ghost use Rattle.tenant_worlds.specs.Turning.{WorksOn};
+ghost use Rattle.tenant_worlds.specs.RowMarks.{KeepRows, KeepsOtherTenants, LeavesRowsAtBy};
+ghost use Rattle.tenant_worlds.specs.Turn.{TurnsTenantAt};
 
 use crate::tenant::Tenant;
 use crate::world::Incoming;
@@ -31,7 +29,7 @@ const MOST_CONTENTS: usize = 256;
 /// It fails if one isn't opened, or if memory runs out.
 pub(crate) fn open_tenants(alloc: Global, count: usize) -> Result<Vec<Tenant>, FilesFault>
     ensures count { IfOk result (λ tenants. length tenants.items ≡ count) }
-    ensures right { IfOk result (λ tenants. AreRight tenants.items) }
+    ensures right { IfOk result (λ tenants. AreRightTenants tenants.items) }
     ensures worlds { IfOk result (λ tenants. HaveOpeningWorlds tenants.items) }
     ensures jobs { IfOk result (λ tenants. HaveNoJob tenants.items) }
 {
@@ -46,7 +44,7 @@ pub(crate) fn open_tenants(alloc: Global, count: usize) -> Result<Vec<Tenant>, F
 
 /// One such tenant, which keeps so many contents in memory.
 fn open_tenant(alloc: Global, contents: NonZeroUsize) -> Result<Tenant, FilesFault>
-    ensures right { IfOk result IsRight }
+    ensures right { IfOk result IsRightTenant }
     ensures opens { IfOk result (IsIdle opening_world) }
 {
     let mut store = TenantStore::open_in_memory(alloc, contents)?;
@@ -72,7 +70,7 @@ fn add_tenant(tenants: &mut Vec<Tenant>, tenant: Tenant) -> Result<(), AllocErro
 /// changes.
 pub(crate) fn limit_tenants(tenants: &mut [Tenant], limit: Option<u64>)
     ensures count { length tenants.new ≡ length tenants.old }
-    ensures right { AreRight tenants.old → AreRight tenants.new }
+    ensures right { AreRightTenants tenants.old → AreRightTenants tenants.new }
     ensures worlds { KeepWorlds tenants.old tenants.new }
     ensures jobs { KeepJobs tenants.old tenants.new }
 {
@@ -92,7 +90,7 @@ pub(crate) fn index_size_at(tenants: &[Tenant], number: usize) -> Option<u64>
 /// Puts the index of the tenant with this number away. No world, no job and no row changes.
 pub(crate) fn put_away_at(alloc: Global, tenants: &mut [Tenant], number: usize)
     ensures count { length tenants.new ≡ length tenants.old }
-    ensures right { AreRight tenants.old → AreRight tenants.new }
+    ensures right { AreRightTenants tenants.old → AreRightTenants tenants.new }
     ensures worlds { KeepWorlds tenants.old tenants.new }
     ensures jobs { KeepJobs tenants.old tenants.new }
     ensures rows { KeepRows tenants.old tenants.new }
@@ -111,18 +109,15 @@ pub(crate) fn turn_at(
     incoming: &Incoming,
 ) -> Result<Worked, FilesFault>
     requires there { number < length tenants.old }
-    requires right { AreRight tenants.old }
+    requires right { AreRightTenants tenants.old }
     requires for_request { IsForRequest incoming.now.request.now (job_at number tenants.old) }
-    ensures works { IfOk result (WorksOn (world_at number tenants.old)
-        (world_at number tenants.new)
-        incoming.now (job_at number tenants.old) (job_at number tenants.new)) }
+    ensures works { TurnsTenantAt result number incoming.now tenants.old tenants.new }
     ensures err { OnErr result (world_at number tenants.new ≡ world_at number tenants.old) }
     ensures dropped { OnErr result (job_at number tenants.new ≡ None) }
-    ensures rows { LeaveRowsAt number (question_of (plain_request_of incoming.now.request.now)) tenants.old tenants.new }
+    ensures rows { LeavesRowsAtBy number incoming.now.request.now tenants.old tenants.new }
     ensures count { length tenants.new ≡ length tenants.old }
-    ensures right { AreRight tenants.new }
-    ensures same { (other : ℕ) → other ≢ number
-        → slice_get tenants.new other ≡ slice_get tenants.old other }
+    ensures right { AreRightTenants tenants.new }
+    ensures same { KeepsOtherTenants number tenants.old tenants.new }
     ensures uses { UsesCache cache.old cache.new }
 {
     tenants[number].take_turn(alloc, cache, incoming)

@@ -1,22 +1,20 @@
 //! A request over the world of one tenant.
-ghost use Rattle.std.specs.Prelude.{◌≡◌, false, Some, None, IfOk, IsErrOf, IsTrue, OnOk, OnErr};
-ghost use Rattle.ports_index.specs.Spending.{no_spending};
-ghost use Rattle.ports_plain.specs.Changing.{changed, overfills, settle_change};
-ghost use Rattle.ports_plain.specs.Questions.{question_of};
-ghost use Rattle.ports_core.specs.Answering.{plain_request_of, AreBytesOf};
-ghost use Rattle.ports_core.specs.Jobs.{IsForRequest, no_job};
-ghost use Rattle.eval_cache.specs.Using.{UsesCache};
+ghost use Rattle.std.specs.Prelude.{◌≡◌, false, Some, None, IfOk, OnOk, OnErr};
+ghost use Rattle.ports_index.specs.Spent.{no_spending};
+ghost use Rattle.ports_plain.specs.Change.{changed, overfills};
+ghost use Rattle.ports_core.specs.Answers.{AreBytesOf};
+ghost use Rattle.ports_core.specs.Jobs.{IsForRequest};
+ghost use Rattle.eval_cache.specs.CacheUse.{UsesCache};
 ghost use Rattle.index_store.specs.PortTable.{stored_by};
-ghost use Rattle.index_keep.specs.Keeping.{refresh_of, rows_of};
-ghost use Rattle.kept_ports.specs.Pending.{IsPending, question_in};
-ghost use Rattle.kept_ports.specs.TurnsLeft.{TurnsOn};
-ghost use Rattle.tenant_worlds.specs.Kept.{IsIdle, IsJobOver, IsRight, job_of, seen_job, world_of};
-ghost use Rattle.index_keep.specs.Turns.{StayFresh};
-ghost use Rattle.tenant_worlds.specs.Marking.{LeavesRowsOf, Marks, MarksIfAny, MarksAtMost};
-ghost use Rattle.tenant_worlds.specs.Turning.{WorksFor, WorksOn};
+ghost use Rattle.index_keep.specs.Keeper.{refresh_of};
+ghost use Rattle.kept_ports.specs.UnderWay.{question_in};
+ghost use Rattle.tenant_worlds.specs.Kept.{IsIdle, IsJobOver, IsRightTenant, job_of, world_of};
+ghost use Rattle.tenant_worlds.specs.RowMarks.{KeepsFreshRows, LeavesRowsBy, LeavesRowsOf, MarksIfFull, MarksRows};
+ghost use Rattle.tenant_worlds.specs.RowMarks.{MarksRowsAtMost, MarksRowsIfAny, TellsFull};
+ghost use Rattle.tenant_worlds.specs.Turn.{IsPendingFor, SettlesChange, TurnsFirst, TurnsJobOf, TurnsOver, TurnsTenant};
 
-use crate::asking::{Asking, Turn};
 use crate::tenant::{Tenant, TenantJob};
+use crate::turn::{Asking, Turn};
 use eval_ask::spent_since;
 use eval_cache::EvalCache;
 use kept_ports::{Turned, UnderWay};
@@ -24,7 +22,7 @@ use mk_paths::FilesFault;
 use ports_core::{Answer, Worked};
 use ports_http::{Reply, Request, write_reply};
 use ports_index::Spent;
-use ports_plain::{Change, Plain, Prepared, Question, full, questions_have_the_answers};
+use ports_plain::{Change, Plain, Prepared, Question, full};
 use std::alloc::{AllocError, Global};
 use tenant_store::PutFault;
 
@@ -50,16 +48,14 @@ impl Tenant {
         cache: &mut EvalCache,
         incoming: &Incoming,
     ) -> Result<Worked, FilesFault>
-        requires right { IsRight self.old }
+        requires right { IsRightTenant self.old }
         requires for_request { IsForRequest incoming.now.request.now (job_of self.old) }
-        ensures works { IfOk result (WorksOn (world_of self.old) (world_of self.new)
-            incoming.now (job_of self.old) (job_of self.new)) }
+        ensures works { TurnsTenant result incoming.now self.old self.new }
         ensures err { OnErr result (IsIdle (world_of self.old) self.new) }
-        ensures rows { LeavesRowsOf (question_of (plain_request_of incoming.now.request.now)) self.old self.new }
-        ensures right { IsRight self.new }
+        ensures rows { LeavesRowsBy incoming.now.request.now self.old self.new }
+        ensures right { IsRightTenant self.new }
         ensures uses { UsesCache cache.old cache.new }
     {
-        questions_have_the_answers();
         match self.job.take() {
             Some(job) => self.work_on(alloc, cache, job, incoming.close),
             None => self.begin(alloc, cache, incoming),
@@ -73,13 +69,12 @@ impl Tenant {
         cache: &mut EvalCache,
         incoming: &Incoming,
     ) -> Result<Worked, FilesFault>
-        requires right { IsRight self.old }
+        requires right { IsRightTenant self.old }
         requires idle { IsIdle (world_of self.old) self.old }
-        ensures works { IfOk result (WorksFor (world_of self.old) (world_of self.new)
-            (question_of (plain_request_of incoming.now.request.now)) incoming.now.close no_job (job_of self.new)) }
+        ensures works { TurnsFirst result incoming.now self.old self.new }
         ensures err { OnErr result (IsIdle (world_of self.old) self.new) }
-        ensures rows { LeavesRowsOf (question_of (plain_request_of incoming.now.request.now)) self.old self.new }
-        ensures right { IsRight self.new }
+        ensures rows { LeavesRowsBy incoming.now.request.now self.old self.new }
+        ensures right { IsRightTenant self.new }
         ensures uses { UsesCache cache.old cache.new }
     {
         let request = incoming.request;
@@ -115,14 +110,13 @@ impl Tenant {
         job: TenantJob,
         close: bool,
     ) -> Result<Worked, FilesFault>
-        requires right { IsRight self.old }
+        requires right { IsRightTenant self.old }
         requires idle { IsIdle (world_of self.old) self.old }
         requires job { IsJobOver (world_of self.old) (refresh_of stored_by self.old.keeper) job }
-        ensures works { IfOk result (WorksFor (world_of self.old) (world_of self.new)
-            (question_in job.under_way) close (seen_job job).had (job_of self.new)) }
+        ensures works { TurnsJobOf result job close self.old self.new }
         ensures err { OnErr result (IsIdle (world_of self.old) self.new) }
         ensures rows { LeavesRowsOf (question_in job.under_way) self.old self.new }
-        ensures right { IsRight self.new }
+        ensures right { IsRightTenant self.new }
         ensures uses { UsesCache cache.old cache.new }
     {
         let TenantJob { turns, under_way } = job;
@@ -150,15 +144,13 @@ impl Tenant {
         cache: &mut EvalCache,
         under_way: UnderWay,
     ) -> Result<Turned, FilesFault>
-        requires right { IsRight self.old }
+        requires right { IsRightTenant self.old }
         requires idle { IsIdle (world_of self.old) self.old }
-        requires pending { IsPending (world_of self.old) (refresh_of stored_by self.old.keeper) under_way }
-        ensures turn { IfOk result (TurnsOn (world_of self.old)
-            (refresh_of stored_by self.old.keeper) (refresh_of stored_by self.new.keeper) under_way) }
-        ensures fresh { StayFresh (world_of self.old)
-            (rows_of stored_by self.old.keeper) (rows_of stored_by self.new.keeper) }
+        requires pending { IsPendingFor under_way self.old }
+        ensures turn { TurnsOver result under_way self.old self.new }
+        ensures fresh { KeepsFreshRows self.old self.new }
         ensures idle { IsIdle (world_of self.old) self.new }
-        ensures right { IsRight self.new }
+        ensures right { IsRightTenant self.new }
         ensures uses { UsesCache cache.old cache.new }
     {
         let mut turn = Turn {
@@ -188,17 +180,14 @@ impl Tenant {
         prepared: Prepared,
         close: bool,
     ) -> Result<Answer, FilesFault>
-        requires right { IsRight self.old }
+        requires right { IsRightTenant self.old }
         requires idle { IsIdle (world_of self.old) self.old }
-        ensures settles { IfOk result (λ answer. settle_change (world_of self.old) prepared.reply prepared.change
-            ≡ (answer.reply, world_of self.new)) }
+        ensures settles { SettlesChange result prepared self.old self.new }
         ensures bytes { IfOk result (λ answer. AreBytesOf answer.reply close answer.bytes) }
-        ensures marks { OnOk result (MarksIfAny prepared.change
-            (rows_of stored_by self.old.keeper) (rows_of stored_by self.new.keeper)) }
+        ensures marks { OnOk result (MarksRowsIfAny prepared.change self.old self.new) }
         ensures err { OnErr result (IsIdle (world_of self.old) self.new) }
-        ensures err_marks { OnErr result (MarksAtMost prepared.change
-            (rows_of stored_by self.old.keeper) (rows_of stored_by self.new.keeper)) }
-        ensures right { IsRight self.new }
+        ensures err_marks { OnErr result (MarksRowsAtMost prepared.change self.old self.new) }
+        ensures right { IsRightTenant self.new }
         ensures idle { self.new.job ≡ None }
     {
         let Prepared { reply, change } = prepared;
@@ -219,19 +208,16 @@ impl Tenant {
     // one if a store fails or memory runs out. If it fails, the world has not changed. If the error is none or `Full`,
     // exactly those rows of the index are stale now that asked for the file's name, or all if the settings change.
     fn carry_out(&mut self, alloc: Global, change: Change) -> Result<(), PutFault>
-        requires right { IsRight self.old }
+        requires right { IsRightTenant self.old }
         requires idle { IsIdle (world_of self.old) self.old }
         ensures fits { OnOk result (overfills (world_of self.old) change ≡ false) }
         ensures changes { OnOk result (world_of self.new ≡ changed (world_of self.old) change) }
-        ensures full { IsErrOf result PutFault.Full → IsTrue (overfills (world_of self.old) change) }
+        ensures full { TellsFull result change self.old }
         ensures err { OnErr result (world_of self.new ≡ world_of self.old) }
-        ensures marks { OnOk result (Marks change
-            (rows_of stored_by self.old.keeper) (rows_of stored_by self.new.keeper)) }
-        ensures full_marks { IsErrOf result PutFault.Full
-            → Marks change (rows_of stored_by self.old.keeper) (rows_of stored_by self.new.keeper) }
-        ensures err_marks { OnErr result (MarksAtMost (Some change)
-            (rows_of stored_by self.old.keeper) (rows_of stored_by self.new.keeper)) }
-        ensures right { IsRight self.new }
+        ensures marks { OnOk result (MarksRows change self.old self.new) }
+        ensures full_marks { MarksIfFull result change self.old self.new }
+        ensures err_marks { OnErr result (MarksRowsAtMost (Some change) self.old self.new) }
+        ensures right { IsRightTenant self.new }
         ensures idle { self.new.job ≡ None }
     {
         match change {

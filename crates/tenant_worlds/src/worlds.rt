@@ -1,9 +1,10 @@
 //! The tenants, and the plain service over their worlds.
-ghost use Rattle.std.specs.Prelude.{◌≡◌, ◌<◌, length, IfSome, IfNone};
-ghost use Rattle.ports_core.specs.Answering.{AnswersFor, AreBytesOf};
-ghost use Rattle.ports_core.specs.Charging.{ChargesFor, FitsTurn, GoesOn};
-ghost use Rattle.ports_core.specs.Jobs.{BecomesJob, IsForRequest, had_by, job_after, job_in, spent_on};
+ghost use Rattle.std.specs.Prelude.{◌≡◌, ◌<◌, length, IfSome};
+ghost use Rattle.ports_core.specs.Answers.{AreBytesOf};
+ghost use Rattle.ports_core.specs.Charges.{FitsTurn};
+ghost use Rattle.ports_core.specs.Jobs.{IsForRequest, job_in};
 ghost use Rattle.ports_core.specs.Sharing.{IsUsed};
+ghost use Rattle.ports_core.specs.TenantTurns.{RepliesFor, TurnCharges, TurnGoesOn, TurnLeavesJob};
 
 use crate::tenant::Tenant;
 use crate::tenants::{index_size_at, limit_tenants, open_tenants, put_away_at, turn_at};
@@ -51,12 +52,12 @@ impl Model for StoredTenants {
 
     ghost coded = { Prim.hlevel (codes, world_code) };
 
-    ghost use Rattle.tenant_worlds.specs.Kept.{AreRight, jobs_of, worlds_of};
+    ghost use Rattle.tenant_worlds.specs.Kept.{AreRightTenants, jobs_of, worlds_of};
     ghost use Rattle.tenant_worlds.specs.Shared.{sharing_in};
 
     ghost view = { λ w. (worlds_of w.tenants.items, jobs_of w.tenants.items, sharing_in w.cache) };
 
-    ghost invariant = { λ w. AreRight w.tenants.items };
+    ghost invariant = { λ w. AreRightTenants w.tenants.items };
 }
 
 impl Tenants for StoredTenants {
@@ -111,16 +112,12 @@ impl StoredTenants {
     fn turn(&mut self, alloc: Global, tenant: usize, request: &Request, close: bool) -> Worked
         requires there { tenant < length self.old.0 }
         requires for_request { IsForRequest request.now (job_in tenant self.old.1) }
-        ensures answers { IfSome result.reply (λ answer. AnswersFor tenant request.now
-            answer.reply self.old.0 self.new.0) }
-        ensures charges { IfSome result.reply (λ answer. ChargesFor tenant request.now answer.reply
-            (spent_on (job_in tenant self.old.1)) result.spent self.old.0) }
+        ensures answers { RepliesFor tenant request.now result self.old.0 self.new.0 }
+        ensures charges { TurnCharges tenant request.now result self.old.1 self.old.0 }
         ensures bytes { IfSome result.reply (λ answer. AreBytesOf answer.reply close answer.bytes) }
-        ensures goes_on { IfNone result.reply (GoesOn tenant request.now
-            (had_by (job_in tenant self.old.1)) result.spent self.old.0 self.new.0) }
+        ensures goes_on { TurnGoesOn tenant request.now result self.old.1 self.old.0 self.new.0 }
         ensures short { FitsTurn result.spent }
-        ensures job { BecomesJob tenant (job_after request.now result.reply result.spent
-            (job_in tenant self.old.1)) self.old.1 self.new.1 }
+        ensures job { TurnLeavesJob tenant request.now result self.old.1 self.new.1 }
         ensures count { length self.new.0 ≡ length self.old.0 }
         ensures job_count { length self.new.1 ≡ length self.old.1 }
         ensures uses { IsUsed self.old.2 self.new.2 }

@@ -7,7 +7,7 @@ use Rattle.std.proofs.lemmas.Map.Keys.{IsDistinct-push}
 use Rattle.std.specs.List.{IsDistinct}
 use Rattle.std.specs.Str.{bytes_eq}
 use Rattle.general_facts.specs.Bools.{or_swap}
-use Rattle.text_graph.specs.Searching.{is_among, added, all_added}
+use Rattle.text_graph.specs.TextSearch.{is_among, added, all_added}
 use Rattle.text_graph.proofs.Members.{equal_texts}
 
 or_known : (a b : Bool) → (b ≡ true → a ≡ true) → a ≡ (b || a)

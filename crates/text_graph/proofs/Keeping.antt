@@ -4,8 +4,8 @@ use Rattle.text_parts.specs.Order.{in_order}
 use Rattle.text_parts.specs.Ordered.{in_order-sorted, among-in_order}
 use Rattle.std.specs.Str.{bytes_eq}
 use Rattle.text_graph.specs.Arrows.{ArrowValue}
-use Rattle.text_graph.specs.Reaching.{ListsJust}
-use Rattle.text_graph.specs.Searching.{is_among, IsFrom, FindsAll}
+use Rattle.text_graph.specs.Reach.{ListsJust}
+use Rattle.text_graph.specs.TextSearch.{is_among, IsFrom, FindsAll}
 use Rattle.text_graph.proofs.Members.{among_from, among_by_equal}
 
 -- all texts that a search found, put in order

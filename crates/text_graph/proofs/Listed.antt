@@ -10,8 +10,8 @@ use Rattle.std.specs.Str.{bytes_eq}
 use Rattle.text_parts.specs.Order.{in_order}
 use Rattle.text_parts.specs.Ordered.{among, in_order-sorted, among-in_order, same_in_order}
 use Rattle.text_graph.specs.Arrows.{ArrowValue, Lead, Way}
-use Rattle.text_graph.specs.Reaching.{IsReached, Reaches, ListsJust}
-use Rattle.text_graph.specs.Searching.{is_among, IsFrom}
+use Rattle.text_graph.specs.Reach.{IsReached, Reaches, ListsJust}
+use Rattle.text_graph.specs.TextSearch.{is_among, IsFrom}
 use Rattle.text_graph.specs.Listed.{next_to, within, reached_list, reaching_list}
 use Rattle.text_graph.proofs.Members.{here, nothing_in, head_or_tail, in_map, from_map, in_filter, from_filter, among_from, among_by_equal}
 use Rattle.text_graph.proofs.Short.{short}

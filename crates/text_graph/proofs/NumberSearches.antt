@@ -3,10 +3,10 @@ use Rattle.std.proofs.Common.{◌≡◌, ◌∙◌, sym, ap, refl, subst, ℕ, �
 use Rattle.std.proofs.lemmas.List.{length-map, get_or-map}
 use Rattle.std.specs.List.{All}
 use Rattle.text_graph.specs.Arrows.{ArrowValue}
-use Rattle.text_graph.specs.Searching.{all_added, next_of, FindsAll}
-use Rattle.text_graph.specs.Numbering.{place_of, text_at, AreNumbers, next_numbers, numbers_added, KnowsItsNumbers}
+use Rattle.text_graph.specs.TextSearch.{all_added, next_texts, FindsAll}
+use Rattle.text_graph.specs.Numbers.{place_of, text_at, AreNumbers, next_numbers, numbers_added, KnowsItsNumbers}
 use Rattle.text_graph.specs.declared.numbers.NumberedArrow.{NumberedArrow}
-use Rattle.text_graph.specs.declared.searching.Found.{Found}
+use Rattle.text_graph.specs.declared.text_search.Found.{Found}
 use Rattle.text_graph.proofs.Numbered.{all-added, next-numbers, numbers-inside, texts-named, begins, ends, texts_from, texts_to}
 use Rattle.text_graph.proofs.Searches.{Searched, search-begins, search-goes_on, search-bound, search-ends}
 
@@ -54,12 +54,12 @@ module _ (starts : List (List ℕ)) (arrows : List ArrowValue) (met : List (List
 
   -- where the arrows from a number that was found lead
   pub nexts : (numbered : List NumberedArrow) → AreArrows met numbered arrows → place < length numbers
-      → AreNumbers met (next_numbers numbered (get_or numbers place 0)) (next_of arrows (text_at met (get_or numbers place 0)))
+      → AreNumbers met (next_numbers numbered (get_or numbers place 0)) (next_texts arrows (text_at met (get_or numbers place 0)))
   nexts numbered are inside = next-numbers met (text_at met (get_or numbers place 0)) (get_or numbers place 0) (named_at inside) numbered arrows are.from are.to
 
   pub next_inside : (numbered : List NumberedArrow) → AreArrows met numbered arrows → place < length numbers → All (λ number. number < length met) (next_numbers numbered (get_or numbers place 0))
   next_inside numbered are inside =
-      numbers-inside met (next_numbers numbered (get_or numbers place 0)) (next_of arrows (text_at met (get_or numbers place 0))) (nexts numbered are inside)
+      numbers-inside met (next_numbers numbered (get_or numbers place 0)) (next_texts arrows (text_at met (get_or numbers place 0))) (nexts numbered are inside)
 
   -- one more number was gone on from
   pub finds-goes_on : (numbered : List NumberedArrow) → AreArrows met numbered arrows → place < length numbers
@@ -68,8 +68,8 @@ module _ (starts : List (List ℕ)) (arrows : List ArrowValue) (met : List (List
       let texts = map (text_at met) numbers in
       let number = get_or numbers place 0 in
       let text = text_at met number in
-      finds_these starts arrows met (numbers_added numbers (next_numbers numbered number)) (all_added texts (next_of arrows text)) (place + 1)
-      (all-added met (next_numbers numbered number) (next_of arrows text) numbers texts (nexts numbered are inside) so_far.named)
+      finds_these starts arrows met (numbers_added numbers (next_numbers numbered number)) (all_added texts (next_texts arrows text)) (place + 1)
+      (all-added met (next_numbers numbered number) (next_texts arrows text) numbers texts (nexts numbered are inside) so_far.named)
       (search-goes_on starts arrows texts place text so_far.searched (omega (arith, inside, length-map numbers (text_at met))) (sym (get_or-map (text_at met) numbers place 0 text inside)))
 
   pub finds-bound : length numbers ≤ length starts + length arrows

@@ -8,8 +8,8 @@ use Rattle.std.specs.List.{All}
 use Rattle.std.specs.Str.{bytes_eq}
 use Rattle.general_facts.specs.Texts.{bytes_eq-sym}
 use Rattle.text_graph.specs.Arrows.{ArrowValue}
-use Rattle.text_graph.specs.Searching.{is_among, added, all_added, next_of}
-use Rattle.text_graph.specs.Numbering.{place_of, text_at, EachOnce, AreNumbers, next_numbers, is_number_among, number_added, numbers_added}
+use Rattle.text_graph.specs.TextSearch.{is_among, added, all_added, next_texts}
+use Rattle.text_graph.specs.Numbers.{place_of, text_at, EachOnce, AreNumbers, next_numbers, is_number_among, number_added, numbers_added}
 use Rattle.text_graph.specs.declared.numbers.NumberedArrow.{NumberedArrow}
 use Rattle.text_graph.proofs.Ways.{first_of, behind_first}
 use Rattle.text_graph.proofs.Members.{equal_texts, equal_itself}
@@ -183,7 +183,7 @@ kept_by met numbered arrow false true same is others more are = absurd (false≢
 
 -- the numbers of the texts where the arrows from a text lead
 pub next-numbers : (met : List (List ℕ)) (text : List ℕ) (number : ℕ) → place_of met text ≡ Some number → (numbered : List NumberedArrow) (arrows : List ArrowValue)
-    → AreNumbers met (begins numbered) (texts_from arrows) → AreNumbers met (ends numbered) (texts_to arrows) → AreNumbers met (next_numbers numbered number) (next_of arrows text)
+    → AreNumbers met (begins numbered) (texts_from arrows) → AreNumbers met (ends numbered) (texts_to arrows) → AreNumbers met (next_numbers numbered number) (next_texts arrows text)
 next-numbers met text number is [] [] from to = refl
 next-numbers met text number is [] (arrow ∷ arrows) from to = not_both (place_of met arrow.from) (map (place_of met) (texts_from arrows)) from
 next-numbers met text number is (first ∷ numbered) [] from to = not_both (Some first.from) (map Some (begins numbered)) (sym from)

@@ -9,7 +9,7 @@ use Rattle.std.specs.List.{Contains, All, IsDistinct}
 use Rattle.std.specs.Str.{bytes_eq}
 use Rattle.general_facts.specs.Bools.{or_elim}
 use Rattle.text_graph.specs.Arrows.{ArrowValue, Lead}
-use Rattle.text_graph.specs.Searching.{is_among, all_added, next_of, IsFrom, FindsAll}
+use Rattle.text_graph.specs.TextSearch.{is_among, all_added, next_texts, IsFrom, FindsAll}
 use Rattle.text_graph.proofs.Adding.{among-all_added, all_apart, same_front, no_shorter}
 use Rattle.text_graph.proofs.Members.{in_map, from_map, in_filter, from_filter, among_from, among_by_equal, equal_texts, equal_itself}
 use Rattle.text_graph.proofs.Ways.{stay, farther, first_of, behind_first}
@@ -44,15 +44,15 @@ record Next (arrows : List ArrowValue) (text to : List ℕ) : Type 0 where
   begins : arrow.from ≡ text
   ends : arrow.to ≡ to
 
-next_from : (arrows : List ArrowValue) (text to : List ℕ) → is_among to (next_of arrows text) ≡ true → Next arrows text to
+next_from : (arrows : List ArrowValue) (text to : List ℕ) → is_among to (next_texts arrows text) ≡ true → Next arrows text to
 next_from arrows text to among =
-    let origin = from_map (λ (arrow : ArrowValue). arrow.to) _ to (among_by_equal to (next_of arrows text) among) in
+    let origin = from_map (λ (arrow : ArrowValue). arrow.to) _ to (among_by_equal to (next_texts arrows text) among) in
     let kept = from_filter (λ (arrow : ArrowValue). bytes_eq text arrow.from) arrows origin.element origin.stands in
     record { arrow = origin.element; is_arrow = kept.0; begins = sym (equal_texts text origin.element.from kept.1); ends = origin.gives }
 
-leads_next : (arrows : List ArrowValue) (text : List ℕ) (arrow : ArrowValue) → Contains arrows arrow → arrow.from ≡ text → is_among arrow.to (next_of arrows text) ≡ true
+leads_next : (arrows : List ArrowValue) (text : List ℕ) (arrow : ArrowValue) → Contains arrows arrow → arrow.from ≡ text → is_among arrow.to (next_texts arrows text) ≡ true
 leads_next arrows text arrow stands begins =
-    among_from arrow.to (next_of arrows text)
+    among_from arrow.to (next_texts arrows text)
     (in_map (λ (arrow : ArrowValue). arrow.to) _ arrow
     (in_filter (λ (arrow : ArrowValue). bytes_eq text arrow.from) arrows arrow stands (ap (bytes_eq text) begins ∙ equal_itself text)))
 
@@ -73,9 +73,9 @@ search-begins starts arrows = record {
 
 -- one more text was gone on from
 pub search-goes_on : (starts : List (List ℕ)) (arrows : List ArrowValue) (found : List (List ℕ)) (place : ℕ) (text : List ℕ)
-    → Searched starts arrows found place → place < length found → text ≡ get_or found place text → Searched starts arrows (all_added found (next_of arrows text)) (place + 1)
+    → Searched starts arrows found place → place < length found → text ≡ get_or found place text → Searched starts arrows (all_added found (next_texts arrows text)) (place + 1)
 search-goes_on starts arrows found place text so_far inside is =
-    let more = next_of arrows text in
+    let more = next_texts arrows text in
     let here : take (place + 1) (all_added found more) ≡ take place found ++ text ∷ [] =
     same_front found more (place + 1) (omega (arith, inside)) ∙ take_more found place text inside ∙ ap (λ t. take place found ++ t ∷ []) (sym is) in
     let was_found : is_among text found ≡ true = among_from text found (place, inside, sym is) in

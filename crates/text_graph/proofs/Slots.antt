@@ -4,7 +4,7 @@ use Rattle.std.proofs.lemmas.Bool.{false≢true, eqb-true, eq-eqb}
 use Rattle.std.proofs.lemmas.List.{get_or-set_same, get_or-set_other, get_or_append_left, get_or_push, length_push}
 use Rattle.std.proofs.lemmas.Option.{none-some, same_Some}
 use Rattle.std.specs.Str.{bytes_eq}
-use Rattle.text_graph.specs.Numbering.{place_of, text_at, place_kept}
+use Rattle.text_graph.specs.Numbers.{place_of, text_at, place_kept}
 use Rattle.text_graph.proofs.Members.{equal_texts, equal_itself}
 use Rattle.text_graph.proofs.Numbered.{place-new, place-last, place-more_by}
 

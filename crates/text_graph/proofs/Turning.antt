@@ -3,8 +3,8 @@ use Rattle.std.proofs.Common.{◌∙◌, sym, ap, subst, ℕ, List, map, ◌↔�
 use Rattle.std.specs.List.{Contains}
 use Rattle.std.specs.Str.{bytes_eq}
 use Rattle.text_graph.specs.Arrows.{ArrowValue, Way}
-use Rattle.text_graph.specs.Reaching.{IsReached, Reaches}
-use Rattle.text_graph.specs.Searching.{turned, next_of, IsFrom}
+use Rattle.text_graph.specs.Reach.{IsReached, Reaches}
+use Rattle.text_graph.specs.TextSearch.{turned, next_texts, IsFrom}
 use Rattle.text_graph.proofs.Members.{in_map, from_map, in_filter, from_filter, equal_texts, equal_itself}
 use Rattle.text_graph.proofs.Searches.{ends}
 use Rattle.text_graph.proofs.Ways.{begun, ended, turned_back}
@@ -27,7 +27,7 @@ stands_turned arrows arrow stands =
     subst (Contains arrows) (ap turned origin.gives) origin.stands
 
 -- an arrow that ends at the goal begins where the search over turned arrows starts
-pub reaching_turned : (arrows : List ArrowValue) (goal text : List ℕ) → IsFrom (next_of (map turned arrows) goal) (map turned arrows) text ↔ Reaches arrows goal text
+pub reaching_turned : (arrows : List ArrowValue) (goal text : List ℕ) → IsFrom (next_texts (map turned arrows) goal) (map turned arrows) text ↔ Reaches arrows goal text
 reaching_turned arrows goal text = (
   λ from.
       let origin = from_map (λ (arrow : ArrowValue). arrow.to) _ from.start from.is_start in

@@ -3,7 +3,7 @@ use Rattle.std.proofs.Common.{◌≡◌, sym, refl, subst, ℕ, List, [], ◌∷
 use Rattle.std.proofs.lemmas.List.Elements.{All-cons, All-nil, All-from_recursion, recursion_from_All}
 use Rattle.std.specs.List.{Contains, All}
 use Rattle.text_graph.specs.Arrows.{ArrowValue, Lead, Way}
-use Rattle.text_graph.specs.Searching.{turned}
+use Rattle.text_graph.specs.TextSearch.{turned}
 
 -- one stays
 pub stay : (arrows : List ArrowValue) (from to : List ℕ) → from ≡ to → Way arrows from to

@@ -1,7 +1,7 @@
 pub mod Arrows
-pub mod Reaching
-pub mod Searching
+pub mod Reach
+pub mod TextSearch
 pub mod Slots
-pub mod Numbering
+pub mod Numbers
 pub mod Listed
-pub mod Giving
+pub mod SearchResults

@@ -2,8 +2,8 @@
 use Rattle.std.specs.Prelude.{ℕ, zero, suc, List, [], ◌∷◌, ◌++◌, filter, length}
 use Rattle.text_parts.specs.Order.{in_order}
 use Rattle.text_graph.specs.Arrows.{ArrowValue, beginnings_of, ends_of}
-use Rattle.text_graph.specs.Reaching.{IsReached, Reaches, ListsJust}
-use Rattle.text_graph.specs.Searching.{is_among}
+use Rattle.text_graph.specs.Reach.{IsReached, Reaches, ListsJust}
+use Rattle.text_graph.specs.TextSearch.{is_among}
 
 -- where the arrows lead that begin at one of these texts
 abbrev pub next_to : List ArrowValue → List (List ℕ) → List (List ℕ)

@@ -12,16 +12,16 @@ abbrev pub spread : ℕ → ℕ → ℕ
 spread mark number = (mark + number) % 2 ^ 64 * FACTOR % 2 ^ 64
 
 -- a mark, spread with all of these bytes: with four at a time, and then with each that is left
-unfoldable pub marked : ℕ → List ℕ → ℕ
-marked mark (a ∷ b ∷ c ∷ d ∷ rest) = marked (spread mark (from_le_bytes w32 (a ∷ b ∷ c ∷ d ∷ []))) rest
-marked mark (a ∷ b ∷ c ∷ []) = fold spread mark (a ∷ b ∷ c ∷ [])
-marked mark (a ∷ b ∷ []) = fold spread mark (a ∷ b ∷ [])
-marked mark (a ∷ []) = fold spread mark (a ∷ [])
-marked mark [] = mark
+unfoldable pub spread_with_bytes : ℕ → List ℕ → ℕ
+spread_with_bytes mark (a ∷ b ∷ c ∷ d ∷ rest) = spread_with_bytes (spread mark (from_le_bytes w32 (a ∷ b ∷ c ∷ d ∷ []))) rest
+spread_with_bytes mark (a ∷ b ∷ c ∷ []) = fold spread mark (a ∷ b ∷ c ∷ [])
+spread_with_bytes mark (a ∷ b ∷ []) = fold spread mark (a ∷ b ∷ [])
+spread_with_bytes mark (a ∷ []) = fold spread mark (a ∷ [])
+spread_with_bytes mark [] = mark
 
 -- the slot of a text
 unfoldable pub slot_of : List ℕ → ℕ
-slot_of text = marked 0 text / 2 ^ 48 % SLOTS
+slot_of text = spread_with_bytes 0 text / 2 ^ 48 % SLOTS
 
 -- the number of the first text in the slot of this one, if one was met
 abbrev pub first_in : Numbers → List ℕ → Option ℕ

@@ -1,7 +1,7 @@
 //! Arrows from text to text.
 ghost use Rattle.text_graph.specs.Arrows.{arrows_seen, ends_of};
-ghost use Rattle.text_graph.specs.Searching.{all_turned, next_of};
-ghost use Rattle.text_graph.specs.Giving.{GivesArrows, LendsTexts};
+ghost use Rattle.text_graph.specs.TextSearch.{all_turned, next_texts};
+ghost use Rattle.text_graph.specs.SearchResults.{GivesArrows, LendsTexts};
 
 use std::alloc::{AllocError, Global};
 
@@ -45,7 +45,7 @@ pub(crate) fn beginnings<'a>(
     arrows: &[Arrow<'a>],
     goal: &str,
 ) -> Result<Vec<&'a str>, AllocError>
-    ensures { LendsTexts result (next_of (all_turned (arrows_seen arrows.now)) goal.now) }
+    ensures { LendsTexts result (next_texts (all_turned (arrows_seen arrows.now)) goal.now) }
 {
     let mut beginnings = Vec::new(alloc);
     for arrow in arrows {

@@ -5,8 +5,8 @@ mod arrow;
 mod laws;
 mod numbers;
 mod reach;
-mod searching;
 mod steps;
+mod text_search;
 
 pub use arrow::Arrow;
 pub use laws::{reached_are_listed, reaching_are_listed};

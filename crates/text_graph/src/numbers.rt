@@ -2,10 +2,10 @@
 ghost use Rattle.std.specs.Prelude.{◌≡◌, ◌<◌, fold, None, IfOk, OnOk, length, true, false};
 ghost use Rattle.text_parts.specs.Cuts.{now_all};
 ghost use Rattle.text_graph.specs.Arrows.{arrows_seen, beginnings_of, ends_of};
-ghost use Rattle.text_graph.specs.Numbering.{texts_met, texts_at, IsNumbering, IsNoFirst, MeetsMore};
-ghost use Rattle.text_graph.specs.Numbering.{IsNumberOf, IsOfAnother, AreWithin};
-ghost use Rattle.text_graph.specs.Giving.{GivesNumber, GivesNumbers, BeginsAtNumber, EndsAtNumber};
-ghost use Rattle.text_graph.specs.Giving.{BeginAtNumbers, EndAtNumbers, LendsTexts};
+ghost use Rattle.text_graph.specs.Numbers.{texts_met, texts_at, IsNumbering, IsNoFirst, MeetsMore};
+ghost use Rattle.text_graph.specs.Numbers.{IsNumberOf, IsOfAnother, AreWithin};
+ghost use Rattle.text_graph.specs.SearchResults.{GivesNumber, GivesNumbers, BeginsAtNumber, EndsAtNumber};
+ghost use Rattle.text_graph.specs.SearchResults.{BeginAtNumbers, EndAtNumbers, LendsTexts};
 ghost use Rattle.text_graph.specs.Slots.{slot_of, spread, first_in};
 ghost use Rattle.text_graph.specs.declared.numbers.TheConstants.{SLOTS};
 

@@ -4,10 +4,10 @@ ghost use Rattle.text_parts.specs.Order.{in_order};
 ghost use Rattle.text_parts.specs.Cuts.{now_all};
 ghost use Rattle.text_graph.specs.Arrows.{arrows_seen};
 ghost use Rattle.text_graph.specs.Listed.{reached_list, reaching_list};
-ghost use Rattle.text_graph.specs.Giving.{LendsTexts};
+ghost use Rattle.text_graph.specs.SearchResults.{LendsTexts};
 
 use crate::arrow::{Arrow, beginnings, ends, turned};
-use crate::searching::search;
+use crate::text_search::search;
 use std::alloc::{AllocError, Global};
 
 /// All texts that are reached over one or more arrows: the first arrow is one of `first`, and each

@@ -1,8 +1,8 @@
 //! Where the arrows from each text lead.
 ghost use Rattle.std.specs.Prelude.{◌≡◌, ◌<◌, [], IfOk, length};
 ghost use Rattle.std.specs.List.{All};
-ghost use Rattle.text_graph.specs.Numbering.{next_kept, BeginWithin};
-ghost use Rattle.text_graph.specs.Giving.{StepsOver};
+ghost use Rattle.text_graph.specs.Numbers.{next_kept, BeginWithin};
+ghost use Rattle.text_graph.specs.SearchResults.{StepsOver};
 
 use crate::numbers::NumberedArrow;
 use std::alloc::{AllocError, Global};

@@ -1,9 +1,11 @@
 -- How texts are cut at marks: in two, at the first mark that a certain text follows, or in parts, at every
 -- mark. A text is its bytes.
 use Rattle.std.specs.Prelude.{◌≡◌, ℕ, ◌+◌, ◌<◌, ◌==◌, ◌&&◌, if◌then◌else◌, Bool, List, [], ◌∷◌, length, take, drop}
-use Rattle.std.specs.Prelude.{slice_index, map, Option, Some, None, option_map}
+use Rattle.std.specs.Prelude.{slice_index, map, Option, Some, None, option_map, MatchOption, Result, Vec, IfOk}
 use Rattle.std.specs.Borrow.{Bor}
 use Rattle.std.specs.Fn.{FnReturnsAt, Shared}
+use Rattle.std.specs.Global.{Global}
+use Rattle.std.specs.List.{slice_split}
 
 -- a text cut in two
 pub record Cut : Type 0 where
@@ -34,3 +36,20 @@ cut_at text at = record { before = take at text; behind = drop (at + 1) text }
 pub record IsMarkAt (mark : ℕ) (text : List ℕ) (at : ℕ) : Type 0 where
   pub inside : at < length text
   pub is_mark : slice_index text at ≡ mark
+
+-- a text is cut at the first mark after which it passes a closure's test, if there is one
+abbrev pub CutsWhere : {F : Type 0} → Shared F (Bor (List ℕ) × Unit {0}) Bool → F
+    → Option (Bor (List ℕ) × Bor (List ℕ)) → ℕ → List ℕ → Type 0
+CutsWhere calls closure result mark text =
+    (test : List ℕ → Bool) → AnswersAs calls closure test
+    → MatchOption result (cut_where mark test text ≡ None)
+    (λ cut. cut_where mark test text ≡ Some (record { before = cut.0.now; behind = cut.1.now }))
+
+-- a function finds the place of that mark
+abbrev pub FindsMark : {F : Type 0} → Shared F (Bor (List ℕ) × Unit {0}) Bool → F → Option ℕ → ℕ → List ℕ → Type 0
+FindsMark calls closure result mark text =
+    (test : List ℕ → Bool) → AnswersAs calls closure test → cut_where mark test text ≡ option_map (cut_at text) result
+
+-- where a function succeeds, it cuts a text at each of these marks
+abbrev pub CutsAtEach : {F : Type 0} → Result (Vec (Bor (List ℕ)) Global) F → ℕ → List ℕ → Type 0
+CutsAtEach result mark text = IfOk result (λ parts. now_all parts.items ≡ slice_split (λ byte. byte == mark) text)

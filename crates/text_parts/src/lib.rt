@@ -2,12 +2,12 @@
 //! which a certain text follows, or into parts, at every mark. Cuts are places in the text, and copy nothing.
 #![tactic(auto)]
 
-mod cutting;
+mod cuts;
 mod laws;
-mod ordering;
+mod order;
 mod parts;
 
-pub use cutting::cut_where;
+pub use cuts::cut_where;
 pub use laws::{cut_is_its_text, parts_are_between, written_is_cut_again, written_parts_may_occur};
-pub use ordering::put_in_order;
+pub use order::put_in_order;
 pub use parts::{clones_of, copies_of, split_at};

@@ -1,8 +1,7 @@
 // The parts of a text.
 ghost use Rattle.std.specs.Prelude.{◌≡◌, ◌==◌, ◌<◌, IfOk, map};
-ghost use Rattle.std.specs.List.{slice_split};
 ghost use Rattle.std.specs.String.{string_bytes};
-ghost use Rattle.text_parts.specs.Cuts.{now_all};
+ghost use Rattle.text_parts.specs.Cuts.{now_all, CutsAtEach};
 
 use std::alloc::{AllocError, Global};
 
@@ -10,8 +9,7 @@ use std::alloc::{AllocError, Global};
 /// if memory runs out.
 pub fn split_at(alloc: Global, text: &str, mark: char) -> Result<Vec<&str>, AllocError>
     requires { mark < 128 }
-    ensures { IfOk result (λ parts. now_all parts.items
-        ≡ slice_split (λ byte. byte == mark) text.now) }
+    ensures { CutsAtEach result mark text.now }
 {
     text.split(mark).collect(alloc)
 }

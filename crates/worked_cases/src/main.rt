@@ -5,13 +5,13 @@
 #![tactic(auto)]
 
 mod clients;
-mod cutting;
-mod failing;
+mod cut_streams;
+mod failing_files;
 mod interrupted;
 mod loopback;
+mod never_kept;
 mod orders;
 mod quiet;
-mod refusing;
 mod served;
 mod service;
 mod streams;

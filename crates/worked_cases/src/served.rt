@@ -21,6 +21,7 @@ pub struct CaseRequest<'a> {
 }
 
 impl<'a> CaseRequest<'a> {
+    /// The request that a line asks for: its tenant is a number, and its target a text.
     pub fn read(
         method: Method,
         tenant: &[u8],

@@ -1,6 +1,6 @@
 //! The layers of the service: streams, replies, requests over a tenant's files, whole runs.
+use crate::never_kept::NeverKept;
 use crate::quiet::QuietPorts;
-use crate::refusing::NeverKept;
 use case_lines::{Answer, Ran, Trouble, as_number, as_text, one_text};
 use http::StatusCode;
 use make_cases::World;

@@ -1,6 +1,8 @@
 //! The things that lines of a case set up and ask, and which call each line means.
 use crate::service::StoredService;
-use crate::{cutting, failing, loopback, orders, served, service, streams, trickle, visitors};
+use crate::{
+    cut_streams, failing_files, loopback, orders, served, service, streams, trickle, visitors,
+};
 use case_lines::{Answer, Bench, Ran, Trouble};
 use index_store::IndexStore;
 use make_cases::Setup;
@@ -21,6 +23,7 @@ pub struct Subjects<'a, N: Net> {
 }
 
 impl<'a, N: Net> Subjects<'a, N> {
+    /// Subjects of which nothing is set up yet. It fails only if there is no memory for them.
     pub fn new(alloc: Global, net: &'a N) -> Result<Subjects<'a, N>, AllocError> {
         Ok(Subjects {
             alloc,
@@ -93,8 +96,8 @@ impl<N: Net> Bench for Subjects<'_, N> {
             "GET" => service::request(alloc, &mut self.setup.world, Method::Get, given),
             "PUT" => service::request(alloc, &mut self.setup.world, Method::Put, given),
             "DELETE" => service::request(alloc, &mut self.setup.world, Method::Delete, given),
-            "GET failing" => failing::answered(alloc, &mut self.setup.world, given),
-            "turn failing" => failing::turned(alloc, &mut self.setup.world, given),
+            "GET failing" => failing_files::answered(alloc, &mut self.setup.world, given),
+            "turn failing" => failing_files::turned(alloc, &mut self.setup.world, given),
             "rests" => service::rests(alloc, &mut self.setup.world, given),
             "bound" => service::bound(alloc, &mut self.setup.world, given),
             "stream" => service::stream(alloc, given),
@@ -113,8 +116,8 @@ impl<N: Net> Bench for Subjects<'_, N> {
             "print" => streams::printed_steps(alloc, given),
             "open and end" => service::open_and_end(alloc, given),
             "after at" => service::after(alloc, given),
-            "ends of" => cutting::ends_of(alloc, given),
-            "by bytes" => cutting::by_bytes(alloc, given),
+            "ends of" => cut_streams::ends_of(alloc, given),
+            "by bytes" => cut_streams::by_bytes(alloc, given),
             "any order of with" => orders::any_order(alloc, given),
             "loopback" => loopback::answered(alloc, self.net, given),
             "visits by" => visitors::served(alloc, self.net, given),

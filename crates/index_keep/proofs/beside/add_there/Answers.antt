@@ -1,9 +1,9 @@
 -- The next path is added if it is there.
 use Rattle.std.proofs.Common.{◌≡◌, ◌∙◌, ap, subst, sym, ◌||◌, ◌&&◌, ◌∷◌, [], map, string_bytes}
-use Rattle.mk_paths.specs.FilesView.{world_of}
+use Rattle.mk_paths.specs.FilesView.{view_world}
 use Rattle.mk_paths.specs.World.{World, FileMap}
-use Rattle.ports_index.specs.Filling.{is_one_of}
-use Rattle.read_trace.specs.Recording.{view_of}
+use Rattle.ports_index.specs.FilledRows.{is_one_of}
+use Rattle.read_trace.specs.Recorder.{view_of}
 use Rattle.index_keep.specs.Beside.{is_there_at}
 use Rattle.index_keep.proofs.ListLemmas.{added-more, map-append}
 use Rattle.index_keep.proofs.beside.add_there.Goals as goal
@@ -11,7 +11,7 @@ use Rattle.index_keep.proofs.beside.add_there.Goals as goal
 pub loop-path-preserved-in-Continue-branch-2 : goal.loop-path-preserved-in-Continue-branch-2
 loop-path-preserved-in-Continue-branch-2 g c =
     let settings = c.args.settings.now in
-    let world : World = world_of (view_of g.F.Names.view c.args.files.now) settings in
+    let world : World = view_world (view_of g.F.Names.view c.args.files.now) settings in
     let known = c.args.known.now in
     let before = c.loop-path.invariant in
     let start = map string_bytes c.args.beside.now.items in
@@ -30,7 +30,7 @@ loop-path-preserved-in-Continue-branch-2 g c =
 pub loop-path-preserved : goal.loop-path-preserved
 loop-path-preserved g c =
     let settings = c.args.settings.now in
-    let world : World = world_of (view_of g.F.Names.view c.args.files.now) settings in
+    let world : World = view_world (view_of g.F.Names.view c.args.files.now) settings in
     let known = c.args.known.now in
     let before = c.loop-path.invariant in
     let start = map string_bytes c.args.beside.now.items in

@@ -1,8 +1,8 @@
 -- Those of the paths up to here are added that are there. The files are the same.
 use Rattle.std.proofs.Common.{◌≡◌, ◌&&◌, ◌||◌, ℕ, List, None, map, string_bytes}
-use Rattle.mk_paths.specs.FilesView.{world_of}
-use Rattle.ports_index.specs.Filling.{is_one_of}
-use Rattle.read_trace.specs.Recording.{view_of}
+use Rattle.mk_paths.specs.FilesView.{view_world}
+use Rattle.ports_index.specs.FilledRows.{is_one_of}
+use Rattle.read_trace.specs.Recorder.{view_of}
 use Rattle.index_keep.specs.Beside.{is_there_at}
 use Rattle.index_keep.specs.Right.{LeavesFiles}
 use Rattle.index_keep.proofs.beside.add_there.Given as goal
@@ -12,5 +12,5 @@ invariant-loop-path g l = record {
   leaves : LeavesFiles None (view_of g.F.Names.view l.initial.files) (view_of g.F.Names.view l.files);
   adds : (path : List ℕ) → is_one_of path (map string_bytes l.beside.items)
       ≡ (is_one_of path (map string_bytes l.initial.beside.items) || (is_one_of path (map string_bytes l.yielded)
-      && is_there_at (world_of (view_of g.F.Names.view l.initial.files) l.settings) l.known path));
+      && is_there_at (view_world (view_of g.F.Names.view l.initial.files) l.settings) l.known path));
 }

@@ -4,14 +4,14 @@ use Rattle.std.specs.List.{filter}
 use Rattle.std.specs.Str.{bytes_eq}
 use Rattle.text_parts.specs.Order.{in_order}
 use Rattle.text_parts.specs.Ordered.{among-in_order, in_order-again}
-use Rattle.mk_paths.specs.FilesView.{world_of}
+use Rattle.mk_paths.specs.FilesView.{view_world}
 use Rattle.mk_paths.specs.World.{World, FileMap}
-use Rattle.port_deps.specs.Reading.{has_comma}
-use Rattle.ports_index.specs.Depending.{targets_in}
-use Rattle.ports_index.specs.Filling.{is_one_of}
+use Rattle.port_deps.specs.ItemText.{has_comma}
+use Rattle.ports_index.specs.Dependencies.{targets_in}
+use Rattle.ports_index.specs.FilledRows.{is_one_of}
 use Rattle.ports_index.specs.RowLaws.{is_target_among}
 use Rattle.ports_index.specs.Seen.{entries_in, known_in, known_row}
-use Rattle.read_trace.specs.Recording.{view_of}
+use Rattle.read_trace.specs.Recorder.{view_of}
 use Rattle.index_keep.specs.Beside.{is_there_at}
 use Rattle.index_keep.proofs.BesideLemmas.{added-there, one-filter, target-next}
 use Rattle.index_keep.proofs.beside.paths_beside.Goals as goal
@@ -19,7 +19,7 @@ use Rattle.index_keep.proofs.beside.paths_beside.Goals as goal
 pub loop-path-preserved : goal.loop-path-preserved
 loop-path-preserved g c =
     let settings = c.args.settings.now in
-    let world : World = world_of (view_of g.F.Names.view c.args.files.now) settings in
+    let world : World = view_world (view_of g.F.Names.view c.args.files.now) settings in
     let memory = c.args.known.now in
     let known = known_in (entries_in memory) in
     let before = c.loop-path.invariant in
@@ -46,7 +46,7 @@ loop-path-preserved g c =
 
 pub returns-clause-beside : goal.returns-clause-beside
 returns-clause-beside g c =
-    let world : World = world_of (view_of g.F.Names.view c.args.files.now) c.args.settings.now in
+    let world : World = view_world (view_of g.F.Names.view c.args.files.now) c.args.settings.now in
     let memory = c.args.known.now in
     let beside = map string_bytes c.loop-path.beside.items in
     record {

@@ -1,12 +1,12 @@
 -- Those so far are what the rows up to here name with a comma and is there. The files are the same.
 use Rattle.std.proofs.Common.{◌≡◌, ◌&&◌, ℕ, List, None, map, take, string_bytes}
-use Rattle.mk_paths.specs.FilesView.{world_of}
-use Rattle.port_deps.specs.Reading.{has_comma}
-use Rattle.ports_index.specs.Filling.{is_one_of}
-use Rattle.ports_index.specs.Finding.{IsFinderOf}
+use Rattle.mk_paths.specs.FilesView.{view_world}
+use Rattle.port_deps.specs.ItemText.{has_comma}
+use Rattle.ports_index.specs.FilledRows.{is_one_of}
+use Rattle.ports_index.specs.Finders.{IsFinderOf}
 use Rattle.ports_index.specs.RowLaws.{is_target_among}
 use Rattle.ports_index.specs.Seen.{entries_in, known_in}
-use Rattle.read_trace.specs.Recording.{view_of}
+use Rattle.read_trace.specs.Recorder.{view_of}
 use Rattle.index_keep.specs.Beside.{is_there_at}
 use Rattle.index_keep.specs.Right.{LeavesFiles}
 use Rattle.index_keep.proofs.beside.paths_beside.Given as goal
@@ -17,5 +17,5 @@ invariant-loop-path g l = record {
   leaves : LeavesFiles None (view_of g.F.Names.view l.initial.files) (view_of g.F.Names.view l.files);
   are : (path : List ℕ) → is_one_of path (map string_bytes l.beside.items)
       ≡ (has_comma path && is_target_among (known_in (entries_in l.known)) (map string_bytes (take l.path-index l.listed)) path
-      && is_there_at (world_of (view_of g.F.Names.view l.initial.files) l.settings) l.known path);
+      && is_there_at (view_world (view_of g.F.Names.view l.initial.files) l.settings) l.known path);
 }

@@ -1,7 +1,7 @@
 -- The next path has no row, or it has one.
 use Rattle.std.proofs.Common.{◌≡◌, ◌∙◌, ap, sym, ℕ, List, Bool, ◌∷◌, ◌++◌, [], is_none, map, String, Global, string_bytes}
 use Rattle.std.specs.Prelude.{Vec}
-use Rattle.ports_index.specs.Filling.{is_one_of}
+use Rattle.ports_index.specs.FilledRows.{is_one_of}
 use Rattle.ports_index.specs.Seen.{entries_in}
 use Rattle.index_keep.proofs.ListLemmas.{chosen-next, map-append, none-map, none-not}
 use Rattle.index_keep.proofs.stage.lacking_among.Goals as goal

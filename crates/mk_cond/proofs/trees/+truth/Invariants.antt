@@ -1,11 +1,11 @@
 use Rattle.std.proofs.Common.{◌≡◌, ◌+◌, ◌*◌, map, drop, length}
 use Rattle.mk_base.specs.Meter.{IsLater}
-use Rattle.mk_files.specs.Asking.{account}
-use Rattle.mk_files.specs.Looking.{AfterQuestions}
-use Rattle.cond_grammar.specs.Reading.{later_ands, later_nots}
+use Rattle.mk_files.specs.Questions.{account}
+use Rattle.mk_files.specs.AfterQuestions.{AfterQuestions}
+use Rattle.cond_grammar.specs.Reader.{later_ands, later_nots}
 use Rattle.cond_grammar.specs.Trees.{or_tokens, and_tokens, not_tokens}
 use Rattle.cond_grammar.specs.Views.{condition_tree, conjunction_tree, term_tree}
-use Rattle.mk_cond.specs.Leaves.{among}
+use Rattle.mk_cond.specs.Leaves.{surroundings_of}
 use Rattle.mk_cond.specs.Truths.{later_ands_truth, later_nots_truth}
 use Rattle.mk_cond.proofs.trees.+truth.Given as goal
 
@@ -23,7 +23,7 @@ decreases-condition_truth g l = 3 * length (or_tokens (condition_tree l.conditio
 abbrev pub invariant-condition_truth-loop-conjunction : goal.invariant-condition_truth-loop-conjunction
 invariant-condition_truth-loop-conjunction g l =
     let view = g.F.Names.view in
-    let s = among l.setting (view l.fn.files).files in
+    let s = surroundings_of l.setting (view l.fn.files).files in
     record {
       goes : later_ands_truth s (later_ands (map conjunction_tree l.conjunction-items)) l.initial.held (account l.initial.budget (view l.initial.files))
           ≡ later_ands_truth s (later_ands (map conjunction_tree (drop l.conjunction-index l.conjunction-items))) l.held (account l.budget (view l.files));
@@ -34,7 +34,7 @@ invariant-condition_truth-loop-conjunction g l =
 abbrev pub invariant-conjunction_truth-loop-term : goal.invariant-conjunction_truth-loop-term
 invariant-conjunction_truth-loop-term g l =
     let view = g.F.Names.view in
-    let s = among l.setting (view l.fn.files).files in
+    let s = surroundings_of l.setting (view l.fn.files).files in
     record {
       goes : later_nots_truth s (later_nots (map term_tree l.term-items)) l.initial.held (account l.initial.budget (view l.initial.files))
           ≡ later_nots_truth s (later_nots (map term_tree (drop l.term-index l.term-items))) l.held (account l.budget (view l.files));

@@ -6,8 +6,8 @@ use Rattle.std.proofs.lemmas.Result.{err_from_is_err_and}
 use Rattle.mk_base.specs.Meter.{IsLater-on}
 use Rattle.mk_base.specs.Outcome.{each, after}
 use Rattle.mk_base.specs.Each.{each-value, each-stop, each-end}
-use Rattle.mk_base.specs.Stopping.{StopsPurelyAt, StopsPurelyAt-whole, GivesPurely}
-use Rattle.mk_ref.specs.Places.{shown}
+use Rattle.mk_base.specs.Stops.{StopsPurelyAt, StopsPurelyAt-whole, GivesPurely}
+use Rattle.mk_ref.specs.Places.{piece_in_text}
 use Rattle.mk_text.specs.declared.limits.TheConstants.{TEXT_LIMIT}
 use Rattle.mk_mods.specs.Actions.{Whole, Reference, action_of, symbols_of}
 use Rattle.mk_env.specs.declared.scope.Undefined.TheVariants as kept
@@ -97,9 +97,9 @@ expand_text-returns-in_err-join_piece-clause-gives t c =
     rw (p.1, p.2)
     (StopsPurelyAt-whole c.in_err-join_piece.field-0.0 c.join_piece.new.budget _ _
     (λ end stops.
-    text_meaning-pieces references text (map (shown text) pieces) c.args.budget.now c.in_ok-cut.ensures.whole (ap (map (shown text)) c.deref-piece-items.ensures.value ∙ c.in_ok-cut.ensures.pieces) ∙
+    text_meaning-pieces references text (map (piece_in_text text) pieces) c.args.budget.now c.in_ok-cut.ensures.whole (ap (map (piece_in_text text)) c.deref-piece-items.ensures.value ∙ c.in_ok-cut.ensures.pieces) ∙
     c.loop-piece.invariant.goes ∙
-    each-stop (meaning.join_piece references) (shown text) (string_bytes c.loop-piece.joined) pieces c.loop-piece.piece-index _ _ c.loop-piece.budget end (omega arith) refl stops)
+    each-stop (meaning.join_piece references) (piece_in_text text) (string_bytes c.loop-piece.joined) pieces c.loop-piece.piece-index _ _ c.loop-piece.budget end (omega arith) refl stops)
     c.in_err-join_piece.ensures.gives)
 
 pub expand_text-loop-piece-preserved : goal.expand_text-loop-piece-preserved
@@ -107,7 +107,7 @@ expand_text-loop-piece-preserved t c =
     record {
       later = IsLater-on c.loop-piece.invariant.later c.in_ok-join_piece.ensures.later;
       goes = c.loop-piece.invariant.goes ∙
-          each-value (meaning.join_piece (references_in c.args.scope)) (shown c.args.text.now) (string_bytes c.loop-piece.joined) (string_bytes c.join_piece.new.joined) c.deref-piece-items.result.now c.loop-piece.piece-index _ _ c.loop-piece.budget c.join_piece.new.budget (omega arith) refl c.in_ok-join_piece.ensures.gives;
+          each-value (meaning.join_piece (references_in c.args.scope)) (piece_in_text c.args.text.now) (string_bytes c.loop-piece.joined) (string_bytes c.join_piece.new.joined) c.deref-piece-items.result.now c.loop-piece.piece-index _ _ c.loop-piece.budget c.join_piece.new.budget (omega arith) refl c.in_ok-join_piece.ensures.gives;
     }
 
 pub expand_text-returns-clause-gives : goal.expand_text-returns-clause-gives
@@ -117,10 +117,10 @@ expand_text-returns-clause-gives t c =
     let pieces = c.deref-piece-items.result.now in
     let turn = meaning.join_piece references in
     let all : c.loop-piece.piece-index ≡ length pieces = omega arith in
-    text_meaning-pieces references text (map (shown text) pieces) c.args.budget.now c.in_ok-cut.ensures.whole (ap (map (shown text)) c.deref-piece-items.ensures.value ∙ c.in_ok-cut.ensures.pieces) ∙
+    text_meaning-pieces references text (map (piece_in_text text) pieces) c.args.budget.now c.in_ok-cut.ensures.whole (ap (map (piece_in_text text)) c.deref-piece-items.ensures.value ∙ c.in_ok-cut.ensures.pieces) ∙
     c.loop-piece.invariant.goes ∙
-    ap (λ index. each turn (string_bytes c.loop-piece.joined) (map (shown text) (drop index pieces)) c.loop-piece.budget) all ∙
-    each-end turn (shown text) (string_bytes c.loop-piece.joined) pieces c.loop-piece.budget
+    ap (λ index. each turn (string_bytes c.loop-piece.joined) (map (piece_in_text text) (drop index pieces)) c.loop-piece.budget) all ∙
+    each-end turn (piece_in_text text) (string_bytes c.loop-piece.joined) pieces c.loop-piece.budget
 
 pub join_part-returns-in_err-found-in-Reference-clause-gives : goal.join_part-returns-in_err-found-in-Reference-clause-gives
 join_part-returns-in_err-found-in-Reference-clause-gives t c =

@@ -2,7 +2,7 @@ use Rattle.std.proofs.Common.{◌≡◌, ◌≤◌, [], map, drop, length, strin
 use Rattle.std.specs.List.{flat_map}
 use Rattle.mk_base.specs.Meter.{IsLater}
 use Rattle.mk_base.specs.Outcome.{each}
-use Rattle.mk_ref.specs.Places.{shown}
+use Rattle.mk_ref.specs.Places.{piece_in_text}
 use Rattle.mk_text.specs.declared.limits.TheConstants.{TEXT_LIMIT}
 use Rattle.mk_mods.specs.Actions.{action_of, symbols_of}
 use Rattle.mk_env.specs.Expansion as meaning
@@ -45,7 +45,7 @@ invariant-expand_text-loop-piece l =
     let turn = meaning.join_piece (references_in l.scope) in
     record {
       later : IsLater l.initial.budget l.budget;
-      goes : each turn [] (map (shown l.text) l.piece-items) l.initial.budget ≡ each turn (string_bytes l.joined) (map (shown l.text) (drop l.piece-index l.piece-items)) l.budget;
+      goes : each turn [] (map (piece_in_text l.text) l.piece-items) l.initial.budget ≡ each turn (string_bytes l.joined) (map (piece_in_text l.text) (drop l.piece-index l.piece-items)) l.budget;
     }
 
 -- what is left to apply, from here, ends as all of it from the start

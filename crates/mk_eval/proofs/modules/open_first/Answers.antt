@@ -1,7 +1,7 @@
 use Rattle.std.proofs.Common.{◌<◌, ◌∙◌, length, sym, arith}
 use Rattle.std.proofs.lemmas.Result.{err_from_is_err_and}
 use Rattle.mk_base.specs.Meter.{IsLater-on}
-use Rattle.mk_files.specs.Looking.{AfterQuestions-on, LeavesAtStop-on}
+use Rattle.mk_files.specs.AfterQuestions.{AfterQuestions-on, LeavesAtStop-on}
 use Rattle.mk_eval.proofs.Searching.{first-on}
 use Rattle.mk_eval.proofs.modules.open_first.Goals as goal
 

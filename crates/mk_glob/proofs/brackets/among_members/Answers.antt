@@ -3,7 +3,7 @@ use Rattle.mk_glob.specs.Signs.{signs_of}
 use Rattle.mk_glob.specs.Items.{bracketed}
 use Rattle.mk_glob.specs.Brackets.{TestsMembers}
 use Rattle.mk_glob.proofs.SignLemmas.{signs_of-empty}
-use Rattle.mk_glob.proofs.BracketLemmas.{of_body, after_end, of_body-begins, member_read, after_end-empty, after_end-closes, after_end-next, bracketed-from_told, HasMembers-from_told, EndsRange-shorter}
+use Rattle.mk_glob.proofs.BracketLemmas.{of_body, after_end, of_body-begins, member_read, after_end-empty, after_end-closes, after_end-next, bracketed-from_told, HasBracketMembers-from_told, EndsRange-shorter}
 use Rattle.mk_glob.proofs.brackets.among_members.Goals as goal
 
 pub returns-in_err-low : goal.returns-in_err-low
@@ -49,6 +49,6 @@ returns-then-is_bare c =
     let read = member_read c.args.c (signs_of c.args.body.now) c.loop-sign.found c.loop-sign.low c.loop-sign.rest.now c.character.result
     c.range_end-high.result.0 c.range_end-high.result.1.now c.character-in-loop-sign.result c.is_within-found.result
     c.loop-sign.invariant.1 c.character.ensures c.range_end-high.ensures c.character-in-loop-sign.ensures c.is_within-found.ensures in
-    HasMembers-from_told c.args.c (signs_of c.args.body.now) found (signs_of c.in_ok-sign.further.now)
+    HasBracketMembers-from_told c.args.c (signs_of c.args.body.now) found (signs_of c.in_ok-sign.further.now)
     (read ∙ ap (after_end c.args.c found) c.in_ok-sign.ensures.reads
     ∙ after_end-closes c.args.c found c.in_ok-sign.sign (signs_of c.in_ok-sign.further.now) (sym c.if-is_bare.ensures))

@@ -3,7 +3,7 @@ use Rattle.std.specs.List.{flat_map, slice_range}
 use Rattle.std.proofs.lemmas.Str.{IsCharBoundary-before_ascii}
 use Rattle.mk_ref.specs.Units.{units_of}
 use Rattle.mk_ref.specs.Pieces.{pieces_of}
-use Rattle.mk_ref.specs.Places.{shown, IsFaultOf}
+use Rattle.mk_ref.specs.Places.{piece_in_text, IsFaultOf}
 use Rattle.mk_ref.specs.Outside.{dollars, covered_piece}
 use Rattle.mk_ref.proofs.Alone.{unclosed-dollar, front-ends}
 use Rattle.mk_ref.proofs.Covering.{outside-unclosed}
@@ -30,8 +30,8 @@ pub returns-in_ok-push_dollars-in-Ok : goal.returns-in_ok-push_dollars-in-Ok
 returns-in_ok-push_dollars-in-Ok c =
     let text = c.args.text.now in
     let front = c.range-front.result.now in
-    let found = map (shown front) c.as_slice.result.now in
+    let found = map (piece_in_text front) c.as_slice.result.now in
     c.in_ok-push_dollars-in-Ok.ensures ∙ ap (λ l. l ++ dollars c.range_from.result.now) c.in_ok-bytes-in-Ok.ensures
     ∙ ap (λ l. flat_map covered_piece found ++ dollars l) c.range_from.ensures.value
     ∙ outside-unclosed text c.args.at found c.requires
-    (ap (map (shown front)) c.as_slice.ensures.value ∙ c.in-Ok.ensures.pieces ∙ ap (λ l. pieces_of (units_of l)) (from_start text front c.args.at c.range-front.ensures.value))
+    (ap (map (piece_in_text front)) c.as_slice.ensures.value ∙ c.in-Ok.ensures.pieces ∙ ap (λ l. pieces_of (units_of l)) (from_start text front c.args.at c.range-front.ensures.value))

@@ -4,7 +4,7 @@ use Rattle.mk_eval.specs.Meaning.{means}
 use Rattle.mk_eval.specs.Views.{flavors_in}
 use Rattle.mk_eval.specs.declared.outcome.Evaluated.{Evaluated}
 use Rattle.mk_eval.specs.declared.outcome.Failed.{Failed}
-use Rattle.mk_step.specs.Turning.{Leaves, TellsIfDone}
+use Rattle.mk_step.specs.Turn.{Leaves, TellsIfDone}
 use Rattle.mk_step.specs.declared.machine.Turned.TheVariants.{Done}
 use Rattle.mk_step.proofs.Evaluating.{asked-all, costs-as}
 use Rattle.mk_step.proofs.evaluation.evaluate_with.Goals as goal

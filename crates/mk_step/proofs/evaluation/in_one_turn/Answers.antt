@@ -1,6 +1,6 @@
 use Rattle.std.proofs.Common.{[], Ok, subst}
 use Rattle.mk_eval.specs.Views.{flavors_in}
-use Rattle.mk_step.specs.Turning.{Leaves, IsNew}
+use Rattle.mk_step.specs.Turn.{Leaves, IsNew}
 use Rattle.mk_step.proofs.Evaluating.{under-way, turned-tells, turned-leaves, has-spent, spends-has}
 use Rattle.mk_step.proofs.evaluation.in_one_turn.Goals as goal
 

@@ -1,5 +1,5 @@
 use Rattle.std.proofs.Common.{Some, None, refl, arith}
-use Rattle.mk_step.specs.Paying.{weight}
+use Rattle.mk_step.specs.Costs.{weight}
 use Rattle.mk_step.specs.Views.{frames_of}
 use Rattle.mk_step.proofs.Stacks.{pops, weighs}
 use Rattle.mk_step.proofs.frames.next_frame.Goals as goal

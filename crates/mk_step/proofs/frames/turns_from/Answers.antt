@@ -5,14 +5,14 @@ use Rattle.mk_step.specs.Views.{site_of}
 use Rattle.mk_step.proofs.Settling.{costs-turns, over-turns}
 use Rattle.mk_step.proofs.frames.turns_from.Goals as goal
 
-pub returns-then-next-count-clause-costs : goal.returns-then-next-count-clause-costs
-returns-then-next-count-clause-costs c =
-    let len : c.count.result ≡ length (turns_in c.args.turns.value) = c.count.ensures ∙ ap (λ turns. length (turns_in turns)) c.deref.ensures in
-    let within : c.args.next < length (turns_in c.args.turns.value) = omega (arith, len, c.if-next-count.true) in
-    costs-turns (site_of c.args.site.value) c.args.line (block_of c.args.body.value.items) (turns_in c.args.turns.value) c.args.next within
+pub returns-then-left-count-clause-costs : goal.returns-then-left-count-clause-costs
+returns-then-left-count-clause-costs c =
+    let len : c.count.result ≡ length (turns_in c.args.left.turns.value) = c.count.ensures ∙ ap (λ turns. length (turns_in turns)) c.deref.ensures in
+    let within : c.args.left.next < length (turns_in c.args.left.turns.value) = omega (arith, len, c.if-left-count.true) in
+    costs-turns (site_of c.args.site.value) c.args.left.line (block_of c.args.left.body.value.items) (turns_in c.args.left.turns.value) c.args.left.next within
 
 pub returns-clause-alike : goal.returns-clause-alike
 returns-clause-alike c = λ others.
-    let len : c.count.result ≡ length (turns_in c.args.turns.value) = c.count.ensures ∙ ap (λ turns. length (turns_in turns)) c.deref.ensures in
-    let past : length (turns_in c.args.turns.value) ≤ c.args.next = omega (arith, len, c.if-next-count.false) in
-    over-turns (site_of c.args.site.value) c.args.line (block_of c.args.body.value.items) (turns_in c.args.turns.value) c.args.next others past
+    let len : c.count.result ≡ length (turns_in c.args.left.turns.value) = c.count.ensures ∙ ap (λ turns. length (turns_in turns)) c.deref.ensures in
+    let past : length (turns_in c.args.left.turns.value) ≤ c.args.left.next = omega (arith, len, c.if-left-count.false) in
+    over-turns (site_of c.args.site.value) c.args.left.line (block_of c.args.left.body.value.items) (turns_in c.args.left.turns.value) c.args.left.next others past

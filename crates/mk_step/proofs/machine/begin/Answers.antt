@@ -1,10 +1,10 @@
 use Rattle.std.proofs.Common.{◌≡◌, ◌∙◌, ◌++◌, ◌∷◌, [], false, Some, Ok, sym, ap, subst}
 use Rattle.std.proofs.lemmas.Result.{err_from_is_err_and}
 use Rattle.mk_base.specs.Blame.{IsBlamed}
-use Rattle.mk_base.specs.Stopping.{StopsPurelyAt}
+use Rattle.mk_base.specs.Stops.{StopsPurelyAt}
 use Rattle.mk_base.specs.declared.faults.FaultKind.TheVariants as kinds
-use Rattle.mk_base.specs.declared.stopping.Stop.TheVariants as stops
-use Rattle.mk_ast.specs.Parsing.{parsed}
+use Rattle.mk_base.specs.declared.stops.Stop.TheVariants as stops
+use Rattle.mk_ast.specs.Parser.{parsed}
 use Rattle.mk_eval.specs.Start as starts
 use Rattle.mk_eval.specs.Views.{flavors_in}
 use Rattle.mk_step.specs.Machine.{read_lines}

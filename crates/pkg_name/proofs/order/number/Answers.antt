@@ -8,10 +8,10 @@ use Rattle.std.specs.List.{list_all}
 use Rattle.std.specs.Result.{result_ok}
 use Rattle.std.specs.Str.Parse.{ParsesUnsigned}
 use Rattle.general_facts.specs.Texts.{decimal_numerals}
-use Rattle.pkg_name.specs.Order.{number_of}
+use Rattle.pkg_name.specs.Order.{number_written}
 use Rattle.pkg_name.proofs.order.number.Goals as goal
 
-parsed : {E : Type 0} (text digits : List ℕ) (r : Result ℕ E) → ParsesUnsigned 64 10 text r → text ≡ digits → list_all is_ascii_digit digits ≡ true → length digits ≤ 18 → result_ok r ≡ number_of digits
+parsed : {E : Type 0} (text digits : List ℕ) (r : Result ℕ E) → ParsesUnsigned 64 10 text r → text ≡ digits → list_all is_ascii_digit digits ≡ true → length digits ≤ 18 → result_ok r ≡ number_written digits
 parsed text [] (Ok n) h same all few =
     let read = rw same at h in
     let some : 0 < 0 = read.0.0.0 in

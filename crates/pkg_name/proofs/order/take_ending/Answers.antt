@@ -4,7 +4,7 @@ use Rattle.std.proofs.lemmas.Bool.{and_left, and_right, ne_eqb}
 use Rattle.std.specs.List.{list_all}
 use Rattle.std.specs.Char.{is_ascii_digit}
 use Rattle.pkg_name.specs.Version.{has_short_numbers}
-use Rattle.pkg_name.specs.Order.{ended_by, is_number, number_of}
+use Rattle.pkg_name.specs.Order.{ended_by, is_number, number_written}
 use Rattle.pkg_name.proofs.ShortNumbers.{short-front, short-take, short-drop, short-digits}
 use Rattle.pkg_name.proofs.Endings.{whole, ending_at, ending_none, ending_taken, ending_kept, number-some, number-none}
 use Rattle.pkg_name.proofs.order.take_ending.Goals as goal
@@ -25,7 +25,7 @@ number-requires-clause-few c =
     rw c.split_at.ensures.back (short-digits _ c.final_digits.ensures.digits (short-drop c.final_digits.result c.args.text.now c.requires.short))
 
 -- the end that is taken off
-taken : (c : goal.After-number) → ended_by c.args.letter c.args.text.now ≡ record { before = c.in-Some.before.now; number = number_of c.split_at.result.1.now }
+taken : (c : goal.After-number) → ended_by c.args.letter c.args.text.now ≡ record { before = c.in-Some.before.now; number = number_written c.split_at.result.1.now }
 taken c =
     let at = ending_at c.args.letter c.final_digits.result c.in-Some.last.now c.args.text.now c.split_at.result.0.now c.split_at.result.1.now c.in-Some.before.now
     c.requires.no_digit c.final_digits.ensures.digits c.final_digits.ensures.before c.split_at.ensures.front c.split_at.ensures.back c.split_at.ensures.front_len

@@ -2,7 +2,7 @@
 use Rattle.std.proofs.Common.{◌≡◌, ◌∙◌, ap, sym, List, ℕ, ◌++◌, map, string_bytes, take, take_all}
 use Rattle.std.specs.List.{flat_map}
 use Rattle.text_parts.specs.Order.{in_order}
-use Rattle.ports_index.specs.Depending.{targets_in}
+use Rattle.ports_index.specs.Dependencies.{targets_in}
 use Rattle.ports_index.specs.Seen.{entries_in, known_in, known_row}
 use Rattle.ports_index.proofs.More.{flat_map-more}
 use Rattle.ports_index.proofs.TargetLemmas.{targets-among}

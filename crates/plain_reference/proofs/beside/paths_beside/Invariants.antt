@@ -1,8 +1,8 @@
 -- Those so far are all that the items of the ports up to here name.
 use Rattle.std.proofs.Common.{◌≡◌, map, take, string_bytes}
 use Rattle.std.specs.List.{flat_map}
-use Rattle.ports_index.specs.Depending.{targets_in}
-use Rattle.ports_index.specs.Finding.{IsFinderOf}
+use Rattle.ports_index.specs.Dependencies.{targets_in}
+use Rattle.ports_index.specs.Finders.{IsFinderOf}
 use Rattle.ports_index.specs.Seen.{entries_in, known_in}
 use Rattle.plain_reference.proofs.beside.paths_beside.Given as goal
 

@@ -2,7 +2,7 @@
 use Rattle.std.proofs.Common.{◌≡◌, ◌∷◌, ◌++◌, map, take, string_bytes}
 use Rattle.std.specs.List.{flat_map}
 use Rattle.text_parts.specs.Cuts.{now_all}
-use Rattle.pkg_name.specs.Name.{dash}
+use Rattle.general_facts.specs.Ascii.{dash}
 use Rattle.port_rules.proofs.names.extended.Given as goal
 
 abbrev pub invariant-loop-flavor : goal.invariant-loop-flavor

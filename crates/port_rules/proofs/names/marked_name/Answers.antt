@@ -1,6 +1,6 @@
 use Rattle.std.proofs.Common.{ap, ◌∙◌, subst, Err}
 use Rattle.std.proofs.lemmas.Result.{err_from_is_err_and}
-use Rattle.mk_base.specs.Stopping.{GivesPurely}
+use Rattle.mk_base.specs.Stops.{GivesPurely}
 use Rattle.pkg_name.specs.Name.{split_name}
 use Rattle.port_rules.specs.Packages.{readable}
 use Rattle.port_rules.proofs.Exits.{exit}

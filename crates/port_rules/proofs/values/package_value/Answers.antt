@@ -1,6 +1,6 @@
 -- The package `-` has the value of the variable itself.
 use Rattle.std.proofs.Common.{◌∙◌, sym, subst, option_map, string_bytes}
-use Rattle.mk_base.specs.Stopping.{GivesPurely}
+use Rattle.mk_base.specs.Stops.{GivesPurely}
 use Rattle.port_rules.proofs.OwnValues.{package_value-once}
 use Rattle.port_rules.proofs.values.package_value.Goals as goal
 

@@ -1,6 +1,6 @@
 use Rattle.std.proofs.Common.{subst, ap, ◌∙◌}
 use Rattle.std.proofs.lemmas.List.{take_all}
-use Rattle.ports_http.specs.Decoding.{DecodedSoFar}
+use Rattle.ports_http.specs.DecodedStream.{DecodedSoFar}
 use Rattle.ports_http.proofs.DecodeLemmas.{settled_decodes, pieces_next}
 use Rattle.ports_http.proofs.stream.decode.Goals as goal
 

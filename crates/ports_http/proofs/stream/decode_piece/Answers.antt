@@ -1,6 +1,6 @@
 use Rattle.std.proofs.Common.{◌≡◌, ◌++◌, [], length, subst, sym, ap, ◌∙◌, refl, arith, append-nil, append_assoc}
 use Rattle.std.proofs.lemmas.List.{take-append-drop}
-use Rattle.ports_http.specs.Decoding.{DecodedSoFar}
+use Rattle.ports_http.specs.DecodedStream.{DecodedSoFar}
 use Rattle.ports_http.proofs.DecodeLemmas.{fed_on, over_stays, settled_has_room, not_empty}
 use Rattle.ports_http.proofs.stream.decode_piece.Goals as goal
 

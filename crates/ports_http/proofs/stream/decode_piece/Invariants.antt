@@ -1,10 +1,10 @@
 use Rattle.std.proofs.Common.{◌≡◌, ◌++◌, ℕ, List, length}
-use Rattle.ports_http.specs.Decoding.{IsSettled, DecodedSoFar}
+use Rattle.ports_http.specs.DecodedStream.{WaitsOrIsOver, DecodedSoFar}
 use Rattle.ports_http.proofs.stream.decode_piece.Given as goal
 
 abbrev pub invariant-feeding : goal.invariant-feeding
 invariant-feeding l = record {
-  settled : IsSettled l.conn;
+  settled : WaitsOrIsOver l.conn;
   front : List ℕ;
   whole : front ++ l.rest ≡ l.piece;
   decoded : (stream : List ℕ)

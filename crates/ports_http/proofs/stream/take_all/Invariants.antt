@@ -1,5 +1,5 @@
 use Rattle.std.proofs.Common.{ℕ, List}
-use Rattle.ports_http.specs.Decoding.{DecodedSoFar}
+use Rattle.ports_http.specs.DecodedStream.{DecodedSoFar}
 use Rattle.ports_http.proofs.DecodeLemmas.{left_of}
 use Rattle.ports_http.proofs.stream.take_all.Given as goal
 

@@ -4,7 +4,7 @@ use Rattle.std.specs.Borrow.{Bor}
 use Rattle.std.specs.Prelude.{codes, option_map, unwrap_or}
 use Rattle.std.proofs.lemmas.List.{append-nil}
 use Rattle.http.specs.StatusCode.{code_digits, reason_phrase}
-use Rattle.ports_http.specs.Puts.{Puts}
+use Rattle.ports_http.specs.Puts.{AppendsIfRoom}
 use Rattle.ports_http.specs.Replies.{line, status_text}
 use Rattle.ports_http.proofs.PutLemmas.{appends_both, puts_after}
 use Rattle.ports_http.proofs.write.put_status.Goals as goal
@@ -20,4 +20,4 @@ returns c =
     let all = puts_after c.put_line.new.out (line (c.unwrap_or.result.now ++ [])) c.put_line.result (appends_both (appends_both c.in_ok-put_text.ensures code) c.in_ok-put_text-3.ensures) c.put_line.ensures in
     let phrase : c.unwrap_or.result.now ++ [] ≡ unwrap_or (reason_phrase c.args.status) [] =
     append-nil c.unwrap_or.result.now ∙ ap (λ (s : Bor (List ℕ)). s.now) c.unwrap_or.ensures ∙ behind c.canonical_reason.result _ ∙ ap (λ o. unwrap_or o []) c.canonical_reason.ensures.value in
-    subst (λ (p : List ℕ). Puts c.args.out.now (line (codes "HTTP/1.1 " ++ (code_digits c.args.status ++ codes " " ++ p))) c.put_line.result c.put_line.new.out) phrase all
+    subst (λ (p : List ℕ). AppendsIfRoom c.args.out.now (line (codes "HTTP/1.1 " ++ (code_digits c.args.status ++ codes " " ++ p))) c.put_line.result c.put_line.new.out) phrase all

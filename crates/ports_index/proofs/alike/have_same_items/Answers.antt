@@ -3,7 +3,7 @@ use Rattle.std.proofs.Common.{◌≡◌, ◌∙◌, ◌<◌, ◌++◌, ◌∷◌
 use Rattle.std.proofs.lemmas.List.{map-append, take_more}
 use Rattle.std.proofs.lemmas.Slice.Eq.{bytes_eq-Decides}
 use Rattle.port_rules.specs.Depends.{DependValue}
-use Rattle.ports_index.specs.Alike.{items_of}
+use Rattle.ports_index.specs.Alike.{dependency_items}
 use Rattle.ports_index.proofs.alike.have_same_items.Goals as goal
 
 same_by : (same : Bool) → false ≡ not same → same ≡ true
@@ -21,6 +21,6 @@ loop-place-preserved c =
     let in_new : place < length new = omega arith in
     let same = (bytes_eq-Decides c.item.result.now c.item-in-loop-place.result.now).0 (same_by _ c.if-ne.ensures) in
     let texts : there.item ≡ here.item = sym c.item-in-loop-place.ensures ∙ sym same ∙ c.item.ensures in
-    ap items_of (take_more new place there in_new ∙ ap (λ d. take place new ++ d ∷ []) (sym c.index-new-place.is)) ∙ map-append (λ (d : DependValue). d.item) (take place new) (there ∷ [])
-    ∙ ap (λ item. items_of (take place new) ++ item ∷ []) texts ∙ ap (λ items. items ++ here.item ∷ []) c.loop-place.invariant
-    ∙ sym (ap items_of (take_more old place here in_old ∙ ap (λ d. take place old ++ d ∷ []) (sym c.index-old-place.is)) ∙ map-append (λ (d : DependValue). d.item) (take place old) (here ∷ []))
+    ap dependency_items (take_more new place there in_new ∙ ap (λ d. take place new ++ d ∷ []) (sym c.index-new-place.is)) ∙ map-append (λ (d : DependValue). d.item) (take place new) (there ∷ [])
+    ∙ ap (λ item. dependency_items (take place new) ++ item ∷ []) texts ∙ ap (λ items. items ++ here.item ∷ []) c.loop-place.invariant
+    ∙ sym (ap dependency_items (take_more old place here in_old ∙ ap (λ d. take place old ++ d ∷ []) (sym c.index-old-place.is)) ∙ map-append (λ (d : DependValue). d.item) (take place old) (here ∷ []))

@@ -1,15 +1,15 @@
 -- Rows with the same items or words name the same paths, and so do rows that name none.
 use Rattle.std.proofs.Common.{◌≡◌, ◌∙◌, ap, subst, sym, refl, ℕ, List}
-use Rattle.ports_index.specs.Alike.{NameAlike, NamesNone, items_of}
+use Rattle.ports_index.specs.Alike.{NameAlike, NamesNone, dependency_items}
 use Rattle.ports_index.specs.Seen.{row_seen}
-use Rattle.ports_index.specs.declared.evaluating.Row.{Row}
-use Rattle.ports_index.specs.declared.evaluating.Row.TheVariants.{Absent, Faulty, Port, BadPort, Lists, BadList, FlavoredList, Other}
+use Rattle.ports_index.specs.declared.path_outcomes.Row.{Row}
+use Rattle.ports_index.specs.declared.path_outcomes.Row.TheVariants.{Absent, Faulty, Port, BadPort, Lists, BadList, FlavoredList, Other}
 use Rattle.ports_index.proofs.AlikeLemmas.{targets-by_items}
 use Rattle.ports_index.proofs.alike.name_alike.Goals as goal
 
 pub returns-in-Port-new : goal.returns-in-Port-new
 returns-in-Port-new c = λ same path.
-    let items = sym (ap items_of c.depends-in-Port-new.ensures) ∙ c.have_same_items.ensures same ∙ ap items_of c.depends.ensures in
+    let items = sym (ap dependency_items c.depends-in-Port-new.ensures) ∙ c.have_same_items.ensures same ∙ ap dependency_items c.depends.ensures in
     subst (λ (old : Row). NameAlike path (row_seen old) (row_seen c.args.new.now)) (sym c.in-Port.is)
     (subst (λ (new : Row). NameAlike path (row_seen (Port c.in-Port.port)) (row_seen new)) (sym c.in-Port-new.is)
     (record { words = refl; items = targets-by_items c.in-Port-new.other.depends c.in-Port.port.depends items }))

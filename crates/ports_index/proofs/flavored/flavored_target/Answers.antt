@@ -1,6 +1,6 @@
 -- An item without a comma names no path that has one.
 use Rattle.std.proofs.Common.{◌∙◌, ap, sym, subst}
-use Rattle.port_deps.specs.Reading.{NamesPlainPath}
+use Rattle.port_deps.specs.ItemText.{NamesPlainPath}
 use Rattle.ports_index.specs.Flavored.{if_flavored}
 use Rattle.ports_index.proofs.FlavoredLemmas.{none-plain}
 use Rattle.ports_index.proofs.flavored.flavored_target.Goals as goal

@@ -3,8 +3,8 @@ use Rattle.std.proofs.Common.{◌∙◌, ◌++◌, ap, map, string_bytes, take_a
 use Rattle.std.specs.List.{filter, filter_map}
 use Rattle.std.specs.Option.{option_to_list}
 use Rattle.general_facts.specs.Lists as general
-use Rattle.port_deps.specs.Reading.{has_comma}
-use Rattle.ports_index.specs.Depending.{target_by}
+use Rattle.port_deps.specs.ItemText.{has_comma}
+use Rattle.ports_index.specs.Dependencies.{target_by}
 use Rattle.ports_index.specs.Flavored.{flavored_target}
 use Rattle.ports_index.proofs.FlavoredLemmas.{filter-targets}
 use Rattle.ports_index.proofs.flavored.flavored_targets.Goals as goal

@@ -4,7 +4,7 @@ use Rattle.std.proofs.lemmas.Slice.Eq.{bytes_eq-Decides}
 use Rattle.std.specs.FinMap.{contains_key}
 use Rattle.std.specs.Str.{bytes_eq}
 use Rattle.mk_paths.specs.World.{FileMap}
-use Rattle.ports_index.specs.Filling.{is_one_of}
+use Rattle.ports_index.specs.FilledRows.{is_one_of}
 use Rattle.ports_index.specs.Makefiles.{is_makefile}
 use Rattle.ports_index.proofs.MakefileLemmas.{changed-named}
 use Rattle.ports_index.proofs.makefiles.makefiles_are_there.Goals as goal

@@ -4,7 +4,7 @@ use Rattle.port_deps.specs.Roots.{RootEdgeValue}
 use Rattle.ports_query.specs.Edges.{edges_lent}
 use Rattle.serde_json.specs.Data.{Data}
 use Rattle.ports_plain.specs.ListBodies.{dependent_body}
-use Rattle.ports_plain.specs.Writing.{HasItems}
+use Rattle.ports_plain.specs.JsonText.{HasItems}
 use Rattle.ports_plain.proofs.WritingLemmas.{all_items}
 use Rattle.ports_plain.proofs.list_bodies.dependents.Goals as goal
 

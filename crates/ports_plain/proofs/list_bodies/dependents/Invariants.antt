@@ -2,7 +2,7 @@
 use Rattle.std.proofs.Common.{map, take, codes, Bor}
 use Rattle.port_deps.specs.Roots.{RootEdgeValue}
 use Rattle.ports_plain.specs.ListBodies.{dependent_body}
-use Rattle.ports_plain.specs.Writing.{HasItems}
+use Rattle.ports_plain.specs.JsonText.{HasItems}
 use Rattle.ports_plain.proofs.list_bodies.dependents.Given as goal
 
 abbrev pub invariant-loop-edge : goal.invariant-loop-edge

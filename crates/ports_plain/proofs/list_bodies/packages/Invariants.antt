@@ -1,7 +1,7 @@
 -- The items so far are the packages up to here.
 use Rattle.std.proofs.Common.{map, take, codes}
 use Rattle.ports_plain.specs.ListBodies.{listed_body}
-use Rattle.ports_plain.specs.Writing.{HasItems}
+use Rattle.ports_plain.specs.JsonText.{HasItems}
 use Rattle.ports_plain.proofs.list_bodies.packages.Given as goal
 
 abbrev pub invariant-loop-one : goal.invariant-loop-one

@@ -1,7 +1,7 @@
 -- The items so far are the texts up to here.
 use Rattle.std.proofs.Common.{map, take, string_bytes}
 use Rattle.serde_json.specs.Data.{string}
-use Rattle.ports_plain.specs.Writing.{HasItems}
+use Rattle.ports_plain.specs.JsonText.{HasItems}
 use Rattle.ports_plain.proofs.list_bodies.texts.Given as goal
 
 abbrev pub invariant-loop-text : goal.invariant-loop-text

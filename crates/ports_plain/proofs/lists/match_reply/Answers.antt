@@ -2,7 +2,7 @@
 use Rattle.std.proofs.Common.{◌≡◌, ◌∙◌, ap}
 use Rattle.std.proofs.lemmas.Result.{IfOk-weaker}
 use Rattle.ports_index.specs.Index.{roots}
-use Rattle.ports_query.specs.Listing.{admits_one, admitted_of}
+use Rattle.ports_query.specs.ListedPackages.{admits_one, admitted_of}
 use Rattle.ports_plain.specs.IndexRoutes.{packages_reply}
 use Rattle.ports_plain.proofs.MatchLemmas.{admitted-ports}
 use Rattle.ports_plain.proofs.lists.match_reply.Goals as goal

@@ -8,7 +8,7 @@ use Rattle.serde_json.specs.Data.{array, string}
 use Rattle.serde_json.specs.View.{items_of}
 use Rattle.serde_json.specs.Written.{compact_text}
 use Rattle.ports_plain.specs.PortBody.{texts_body, depend_body, package_body, port_body}
-use Rattle.ports_plain.specs.Writing.{Member, object_of}
+use Rattle.ports_plain.specs.JsonText.{Member, object_of}
 use Rattle.ports_plain.proofs.WritingLemmas.{one_member_more}
 use Rattle.ports_plain.proofs.port_bodies.port.Goals as goal
 

@@ -1,7 +1,7 @@
 use Rattle.std.proofs.Common.{◌≡◌, ◌∙◌, ℕ, List, OnOk, refl, ap, subst, codes}
-use Rattle.port_rules.specs.Depends.{word_of}
+use Rattle.port_rules.specs.Depends.{word_of_kind}
 use Rattle.serde_json.specs.Data.{Data, string, object, no_members, member}
-use Rattle.ports_plain.specs.Writing.{Adds}
+use Rattle.ports_plain.specs.JsonText.{AddsValue}
 use Rattle.ports_plain.proofs.port_bodies.write_depend.Goals as goal
 
 abbrev row : List ℕ → List ℕ → List ℕ → Data
@@ -15,6 +15,6 @@ same a b c = rw (a, b, c) refl
 
 pub returns : goal.returns
 returns c =
-    let kind = c.as_str.ensures ∙ ap word_of c.kind.ensures in
-    subst (λ value. OnOk c.write_object.result (Adds c.args.out.now c.write_object.new.out value))
+    let kind = c.as_str.ensures ∙ ap word_of_kind c.kind.ensures in
+    subst (λ value. OnOk c.write_object.result (AddsValue c.args.out.now c.write_object.new.out value))
     (same c.item.ensures kind c.subpackage.ensures) c.write_object.ensures

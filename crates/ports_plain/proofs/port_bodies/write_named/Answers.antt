@@ -1,6 +1,6 @@
 use Rattle.std.proofs.Common.{◌≡◌, ℕ, List, OnOk, refl, subst, codes}
 use Rattle.serde_json.specs.Data.{Data, string, object, no_members, member}
-use Rattle.ports_plain.specs.Writing.{Adds}
+use Rattle.ports_plain.specs.JsonText.{AddsValue}
 use Rattle.ports_plain.proofs.port_bodies.write_named.Goals as goal
 
 abbrev row : List ℕ → List ℕ → List ℕ → Data
@@ -13,5 +13,5 @@ same : {comment name subpackage comment' name' subpackage' : List ℕ} → comme
 same a b c = rw (a, b, c) refl
 
 pub returns : goal.returns
-returns c = subst (λ value. OnOk c.write_object.result (Adds c.args.out.now c.write_object.new.out value))
+returns c = subst (λ value. OnOk c.write_object.result (AddsValue c.args.out.now c.write_object.new.out value))
     (same c.comment.ensures c.requires c.subpackage.ensures) c.write_object.ensures

@@ -3,7 +3,7 @@ use Rattle.std.proofs.Common.{◌∷◌, codes, take, map}
 use Rattle.std.specs.Prelude.{flat_map}
 use Rattle.json.specs.Token.{begin_array, key}
 use Rattle.ports_plain.specs.PortBody.{package_body}
-use Rattle.ports_plain.specs.Writing.{AddsTokens, value_tokens}
+use Rattle.ports_plain.specs.JsonText.{AddsTokens, value_tokens}
 use Rattle.ports_plain.proofs.port_bodies.write_packages.Given as goal
 
 abbrev pub invariant-loop-one : goal.invariant-loop-one

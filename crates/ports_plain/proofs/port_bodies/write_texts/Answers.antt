@@ -3,7 +3,7 @@ use Rattle.std.specs.Prelude.{OnOk}
 use Rattle.std.proofs.lemmas.Simd.{map-map}
 use Rattle.serde_json.specs.Data.{array, string}
 use Rattle.serde_json.specs.View.{items_of}
-use Rattle.ports_plain.specs.Writing.{AddsMember}
+use Rattle.ports_plain.specs.JsonText.{AddsMember}
 use Rattle.ports_plain.proofs.WritingLemmas.{list_added}
 use Rattle.ports_plain.proofs.port_bodies.write_texts.Goals as goal
 

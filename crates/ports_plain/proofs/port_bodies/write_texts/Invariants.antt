@@ -3,7 +3,7 @@ use Rattle.std.proofs.Common.{◌∷◌, take, map, string_bytes}
 use Rattle.std.specs.Prelude.{flat_map}
 use Rattle.json.specs.Token.{begin_array, key}
 use Rattle.serde_json.specs.Data.{string}
-use Rattle.ports_plain.specs.Writing.{AddsTokens, value_tokens}
+use Rattle.ports_plain.specs.JsonText.{AddsTokens, value_tokens}
 use Rattle.ports_plain.proofs.port_bodies.write_texts.Given as goal
 
 abbrev pub invariant-loop-text : goal.invariant-loop-text

@@ -2,7 +2,7 @@
 use Rattle.std.proofs.Common.{◌∙◌, ◌++◌, ap, map}
 use Rattle.std.specs.Option.{option_to_list}
 use Rattle.general_facts.specs.Lists.{filter_map-more}
-use Rattle.ports_query.specs.Reaching.{arrow_of, step_seen}
+use Rattle.ports_query.specs.Reach.{arrow_of, step_seen}
 use Rattle.ports_query.proofs.reach.steps_over.Goals as goal
 
 pub loop-edge-preserved : goal.loop-edge-preserved

@@ -1,6 +1,6 @@
 -- The steps over the dependencies up to here.
 use Rattle.std.proofs.Common.{◌≡◌, map, take}
-use Rattle.ports_query.specs.Reaching.{arrows_of, step_seen}
+use Rattle.ports_query.specs.Reach.{arrows_of, step_seen}
 use Rattle.ports_query.proofs.reach.steps_over.Given as goal
 
 abbrev pub invariant-loop-edge : goal.invariant-loop-edge

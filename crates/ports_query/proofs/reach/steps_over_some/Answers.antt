@@ -6,7 +6,7 @@ use Rattle.std.specs.Option.{option_to_list}
 use Rattle.general_facts.specs.Lists.{filter_map-more}
 use Rattle.port_deps.specs.Roots.{RootEdgeValue}
 use Rattle.ports_query.specs.Edges.{edges_lent}
-use Rattle.ports_query.specs.Reaching.{arrow_of, step_seen}
+use Rattle.ports_query.specs.Reach.{arrow_of, step_seen}
 use Rattle.ports_query.proofs.reach.steps_over_some.Goals as goal
 
 abbrev now : Bor RootEdgeValue → RootEdgeValue

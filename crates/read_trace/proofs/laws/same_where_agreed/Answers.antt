@@ -1,7 +1,7 @@
 -- The law of evaluations, for a trace that agrees.
 use Rattle.std.proofs.Common.{ap₂}
-use Rattle.mk_eval.specs.Sharing.{questions_of}
-use Rattle.read_trace.specs.declared.evaluating.Evaluation.{Evaluation}
+use Rattle.mk_eval.specs.Agreement.{questions_of}
+use Rattle.read_trace.specs.declared.evaluation.Evaluation.{Evaluation}
 use Rattle.read_trace.proofs.AgreeingFiles.{Agrees-agreement}
 use Rattle.read_trace.proofs.laws.same_where_agreed.Goals as goal
 

@@ -1,6 +1,6 @@
 use Rattle.std.proofs.Common.{subst, List, ℕ}
 use Rattle.row_text.specs.Rows.{row}
-use Rattle.row_text.specs.Seen.{row_seen}
+use Rattle.row_text.specs.Seen.{kept_row_seen}
 use Rattle.row_text.specs.Answers.{Adds}
 use Rattle.row_text.proofs.RowBytes.{row_of-written}
 use Rattle.row_text.proofs.rows.write_row.Goals as goal
@@ -8,4 +8,4 @@ use Rattle.row_text.proofs.rows.write_row.Goals as goal
 pub returns : goal.returns
 returns c =
     row_of-written _ _
-    (subst (λ (old : List ℕ). Adds row old c.write_parts.new.out.items (row_seen c.args.row.now)) c.in_ok-out.ensures.items c.in_ok-write_parts.ensures)
+    (subst (λ (old : List ℕ). Adds row old c.write_parts.new.out.items (kept_row_seen c.args.row.now)) c.in_ok-out.ensures.items c.in_ok-write_parts.ensures)

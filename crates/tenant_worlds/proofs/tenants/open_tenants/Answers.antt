@@ -2,7 +2,7 @@
 use Rattle.std.proofs.Common.{◌∙◌, ap, sym, subst, arith, length, [], ◌∷◌}
 use Rattle.std.specs.Prelude.{option_map}
 use Rattle.std.proofs.lemmas.List.{length-append}
-use Rattle.tenant_worlds.specs.Kept.{AreRight, HaveNoJob, HaveOpeningWorlds, seen_job}
+use Rattle.tenant_worlds.specs.Kept.{AreRightTenants, HaveNoJob, HaveOpeningWorlds, seen_job}
 use Rattle.tenant_worlds.proofs.KeptLemmas.{added_right}
 use Rattle.tenant_worlds.proofs.JobLemmas.{no_jobs}
 use Rattle.tenant_worlds.proofs.WorldLemmas.{opening_added}
@@ -14,7 +14,7 @@ loop-preserved c =
     let tenant = c.in_ok-open_tenant.field-0 in
     record {
       count = ap length c.in_ok-add_tenant.ensures ∙ omega (arith, c.loop.invariant.count, length-append tenants (tenant ∷ []));
-      right = subst AreRight (sym c.in_ok-add_tenant.ensures) (added_right tenants tenant c.loop.invariant.right c.in_ok-open_tenant.ensures.right);
+      right = subst AreRightTenants (sym c.in_ok-add_tenant.ensures) (added_right tenants tenant c.loop.invariant.right c.in_ok-open_tenant.ensures.right);
       worlds = subst HaveOpeningWorlds (sym c.in_ok-add_tenant.ensures) (opening_added tenants tenant c.loop.invariant.worlds c.in_ok-open_tenant.ensures.opens.same);
       jobs = subst HaveNoJob (sym c.in_ok-add_tenant.ensures) (no_jobs tenants tenant c.loop.invariant.jobs (ap (option_map seen_job) c.in_ok-open_tenant.ensures.opens.none));
     }

@@ -6,10 +6,10 @@ use Rattle.ports_core.specs.Jobs.{TenantJob, IsForRequest}
 use Rattle.tenant_worlds.specs.Kept.{IsIdle, job_of, job_at, seen_job, world_of, world_at}
 use Rattle.std.proofs.lemmas.Option.{slice_get-get_or}
 use Rattle.ports_plain.specs.Questions.{question_of}
-use Rattle.ports_core.specs.Answering.{plain_request_of}
+use Rattle.ports_core.specs.Answers.{plain_request_of}
 use Rattle.tenant_worlds.specs.declared.tenant.Tenant.{Tenant}
-use Rattle.tenant_worlds.specs.Marking.{LeavesRowsOf}
-use Rattle.tenant_worlds.specs.Turning.{WorksOn}
+use Rattle.tenant_worlds.specs.RowMarks.{LeavesRowsOf}
+use Rattle.tenant_worlds.specs.Turn.{WorksOn}
 use Rattle.tenant_worlds.proofs.KeptLemmas.{get-set_other, get-set_same, right_at, set_right, some_same}
 use Rattle.tenant_worlds.proofs.JobLemmas.{job_set, job_there}
 use Rattle.tenant_worlds.proofs.WorldLemmas.{if_ok, if_err, world_set, world_there}

@@ -2,8 +2,8 @@
 use Rattle.std.proofs.Common.{◌∙◌, ap, subst}
 use Rattle.text_parts.specs.Cuts.{now_all}
 use Rattle.text_graph.specs.Arrows.{arrows_seen}
-use Rattle.text_graph.specs.Reaching.{IsReached}
-use Rattle.text_graph.specs.Searching.{FindsAll}
+use Rattle.text_graph.specs.Reach.{IsReached}
+use Rattle.text_graph.specs.TextSearch.{FindsAll}
 use Rattle.text_graph.proofs.Keeping.{lists_just}
 use Rattle.text_graph.proofs.Listed.{told_reached}
 use Rattle.text_graph.proofs.Searches.{ends}

@@ -2,7 +2,7 @@
 use Rattle.std.proofs.Common.{◌∙◌, ap, subst}
 use Rattle.eval_cache.specs.Cache.{holds_parse}
 use Rattle.eval_cache.specs.Held.{traces_by_key}
-use Rattle.eval_cache.specs.Keeping.{PutsParse}
+use Rattle.eval_cache.specs.CacheOrder.{PutsParse}
 use Rattle.eval_cache.proofs.EntryLemmas.{AreTrees-put, is_some-parse}
 use Rattle.eval_cache.proofs.OrderLemmas.{contents-put, no-parse, with_parses}
 use Rattle.eval_cache.proofs.cache.EvalCache.keep_parse.Goals as goal

@@ -3,7 +3,7 @@ use Rattle.std.proofs.Common.{◌≡◌, ◌∙◌, ap, subst, sym, is_some, IfO
 use Rattle.std.proofs.lemmas.Result.{IfOk-weaker}
 use Rattle.mk_paths.specs.FilesView.{noted-nothing, noted}
 use Rattle.eval_cache.specs.Keys.{key_of}
-use Rattle.eval_cache.specs.Looking.{agreeing, checked_among, ChecksAmong}
+use Rattle.eval_cache.specs.Look.{agreeing, checked_among, ChecksAmong}
 use Rattle.eval_cache.specs.Cache.{traces_at}
 use Rattle.eval_cache.specs.Held.{AreShort, AreRight, traces_of}
 use Rattle.eval_cache.proofs.EntryLemmas.{kept_at-AreRight, traces-of-kept}

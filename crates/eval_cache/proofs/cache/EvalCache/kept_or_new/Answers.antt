@@ -2,10 +2,10 @@
 use Rattle.std.proofs.Common.{◌∙◌, ap, subst, sym, is_some}
 use Rattle.eval_cache.specs.Held.{AreTrees, traces_by_key}
 use Rattle.eval_cache.specs.declared.contents.ContentKey.{ContentKey}
-use Rattle.eval_cache.specs.declared.counting.Counts.{Counts}
+use Rattle.eval_cache.specs.declared.counts.Counts.{Counts}
 use Rattle.eval_cache.proofs.EntryLemmas.{AreTrees-promoted}
 use Rattle.eval_cache.specs.Cache.{holds_parse}
-use Rattle.eval_cache.specs.Keeping.{HandsOut}
+use Rattle.eval_cache.specs.CacheOrder.{HandsOut}
 use Rattle.eval_cache.proofs.EntryLemmas.{is_some-parse}
 use Rattle.eval_cache.proofs.OrderLemmas.{HandsOut-kept, with_parses}
 use Rattle.eval_cache.proofs.cache.EvalCache.kept_or_new.Goals as goal

@@ -3,8 +3,8 @@ use Rattle.std.proofs.Common.{◌∙◌, ap, subst, sym, unwrap_or, []}
 use Rattle.std.specs.Map.{lookup}
 use Rattle.eval_cache.specs.Keys.{same_key}
 use Rattle.eval_cache.specs.Cache.{traces_at}
-use Rattle.eval_cache.specs.Held.{AreKept, traces_by_key}
-use Rattle.eval_cache.proofs.EntryLemmas.{AreKept-promoted, traces-promoted}
+use Rattle.eval_cache.specs.Held.{AreRightForKeys, traces_by_key}
+use Rattle.eval_cache.proofs.EntryLemmas.{AreRightForKeys-promoted, traces-promoted}
 use Rattle.lru.specs.LruCache.{promoted}
 use Rattle.eval_cache.specs.Keys.{key_of}
 use Rattle.eval_cache.proofs.OrderLemmas.{traces-first}
@@ -13,7 +13,7 @@ use Rattle.eval_cache.proofs.cache.EvalCache.look.Goals as goal
 pub invariant_of-self : goal.invariant_of-self
 invariant_of-self g c = record {
   trees = c.self.invariant.trees;
-  evaluations = subst (λ cache. AreKept cache.entries) (sym c.promote-there.ensures.entries) (AreKept-promoted c.self.inside.evals.entries c.args.key.now c.self.invariant.evaluations);
+  evaluations = subst (λ cache. AreRightForKeys cache.entries) (sym c.promote-there.ensures.entries) (AreRightForKeys-promoted c.self.inside.evals.entries c.args.key.now c.self.invariant.evaluations);
 }
 
 pub returns-in-Some-clause-traces : goal.returns-in-Some-clause-traces

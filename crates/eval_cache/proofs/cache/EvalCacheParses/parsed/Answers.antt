@@ -1,5 +1,5 @@
 -- One parse is asked for.
-use Rattle.eval_cache.specs.Parsing.{AsksParses-one}
+use Rattle.eval_cache.specs.Parses.{AsksParses-one}
 use Rattle.eval_cache.proofs.cache.EvalCacheParses.parsed.Goals as goal
 
 pub returns-clause-left : goal.returns-clause-left

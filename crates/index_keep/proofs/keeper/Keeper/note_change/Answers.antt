@@ -4,7 +4,7 @@ use Rattle.std.specs.Str.{bytes_eq}
 use Rattle.index_keep.specs.Shown.{stale_if_asked}
 use Rattle.index_keep.specs.declared.keeper.Keeper.{Keeper}
 use Rattle.index_keep.specs.declared.keeper.Progress.{Progress}
-use Rattle.index_keep.specs.Keeping.{changed_in, rows_of, stays_there, DropsTo, IsKept, IsProgress}
+use Rattle.index_keep.specs.Keeper.{changed_in, keeper_rows, stays_there, DropsTo, IsKept, IsProgress}
 use Rattle.index_keep.proofs.KeepLemmas.{shown-more, AreKept-noted, DifferAt-itself, IsKept-stopped, IsProgress-noted, IsProgress-stopped}
 use Rattle.index_keep.proofs.keeper.Keeper.note_change.Goals as goal
 use Rattle.index_keep.proofs.keeper.Keeper.note_change.Goals.{then-is_full+in_ok-write_marks, else-is_full}
@@ -13,9 +13,9 @@ pub returns-clause-rows : goal.returns-clause-rows
 returns-clause-rows g c = λ path.
     let entries = g.R.PathRows.entries in
     let name = c.in_ok-name.ensures.ok ∙ c.as_str.ensures.text in
-    let same : rows_of entries c.if-is_full.self path ≡ rows_of entries c.args.self.now path = elim c.if-is_full.branch [
-      | then-is_full+in_ok-write_marks w ↦ (λ i. rows_of entries (w.self-is i) path) ∙ w.in_ok-write_marks.ensures.rows path
-      | else-is_full w ↦ (λ i. rows_of entries (w.self-is i) path)
+    let same : keeper_rows entries c.if-is_full.self path ≡ keeper_rows entries c.args.self.now path = elim c.if-is_full.branch [
+      | then-is_full+in_ok-write_marks w ↦ (λ i. keeper_rows entries (w.self-is i) path) ∙ w.in_ok-write_marks.ensures.rows path
+      | else-is_full w ↦ (λ i. keeper_rows entries (w.self-is i) path)
     ] in
     shown-more c.args.name.now (changed_in c.if-is_full.self.progress) (changed_in c.add_change.new.self)
     (λ other. c.in_ok-add_change.ensures.changed other ∙ ap (λ bytes. bytes_eq bytes other || changed_in c.if-is_full.self.progress other) name)
@@ -28,14 +28,14 @@ returns-clause-other g c = λ world other differ tells kept.
     let before = c.if-is_full.self in
     let name = c.in_ok-name.ensures.ok ∙ c.as_str.ensures.text in
     let adds = λ (file : List ℕ). c.in_ok-add_change.ensures.changed file ∙ ap (λ bytes. bytes_eq bytes file || changed_in before.progress file) name in
-    let is : IsProgress world (rows_of entries before) before.progress = elim c.if-is_full.branch [
-      | then-is_full+in_ok-write_marks w ↦ rw w.self-is (IsProgress-stopped world (rows_of entries c.args.self.now) _ c.args.self.now.progress _ w.in_ok-write_marks.ensures.progress w.in_ok-write_marks.ensures.rows kept.progress)
+    let is : IsProgress world (keeper_rows entries before) before.progress = elim c.if-is_full.branch [
+      | then-is_full+in_ok-write_marks w ↦ rw w.self-is (IsProgress-stopped world (keeper_rows entries c.args.self.now) _ c.args.self.now.progress _ w.in_ok-write_marks.ensures.progress w.in_ok-write_marks.ensures.rows kept.progress)
       | else-is_full w ↦ rw w.self-is kept.progress
     ] in
     let dropped = subst (λ bytes. DropsTo (stays_there bytes c.args.is_there) before.progress c.add_change.new.self) name c.in_ok-add_change.ensures.dropped in
     record {
-      rows = AreKept-noted c.args.name.now world other differ c.path_is_the_same_where_answered.ensures (rows_of entries c.args.self.now) _ (returns-clause-rows g c) kept.rows;
-      progress = IsProgress-noted c.known_rows_are_enough.ensures c.same_makefiles_serve.ensures c.args.name.now world other differ c.args.is_there tells (rows_of entries before) _ (shown-more c.args.name.now (changed_in before.progress) (changed_in c.add_change.new.self) adds (entries before.rows))
+      rows = AreKept-noted c.args.name.now world other differ c.path_is_the_same_where_answered.ensures (keeper_rows entries c.args.self.now) _ (returns-clause-rows g c) kept.rows;
+      progress = IsProgress-noted c.known_rows_are_enough.ensures c.same_makefiles_serve.ensures c.args.name.now world other differ c.args.is_there tells (keeper_rows entries before) _ (shown-more c.args.name.now (changed_in before.progress) (changed_in c.add_change.new.self) adds (entries before.rows))
           before.progress c.add_change.new.self is dropped adds;
     }
 

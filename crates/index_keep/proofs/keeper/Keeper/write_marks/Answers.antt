@@ -1,7 +1,7 @@
 use Rattle.std.proofs.Common.{◌∙◌, ap, sym}
 use Rattle.index_keep.specs.declared.keeper.Progress.{Progress}
 use Rattle.index_keep.specs.Shown.{shown, no_name}
-use Rattle.index_keep.specs.Keeping.{changed_in}
+use Rattle.index_keep.specs.Keeper.{changed_in}
 use Rattle.index_keep.proofs.KeepLemmas.{forgotten}
 use Rattle.index_keep.proofs.ShownLemmas.{shown-test}
 use Rattle.index_keep.proofs.keeper.Keeper.write_marks.Goals as goal

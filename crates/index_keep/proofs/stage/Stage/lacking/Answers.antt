@@ -1,21 +1,21 @@
 -- The path that was passed has a fresh row, or no makefile.
 use Rattle.std.proofs.Common.{◌≡◌, ◌<◌, ◌+◌, ◌∙◌, ap, subst, sym, true, false, length, arith, is_some, option_map, string_bytes}
 use Rattle.std.proofs.lemmas.List.{take-map}
-use Rattle.mk_paths.specs.FilesView.{world_of}
+use Rattle.mk_paths.specs.FilesView.{view_world}
 use Rattle.mk_paths.specs.World.{World, FileMap}
-use Rattle.read_trace.specs.Recording.{view_of}
+use Rattle.read_trace.specs.Recorder.{view_of}
 use Rattle.ports_index.specs.Efforts.{decided, has_makefile}
-use Rattle.ports_index.specs.Filling.{is_one_of}
+use Rattle.ports_index.specs.FilledRows.{is_one_of}
 use Rattle.ports_index.specs.Seen.{entries_in}
 use Rattle.index_keep.specs.Paths.{IsFoundAt, IsFoundOf}
-use Rattle.index_keep.specs.Walking.{paths_of}
+use Rattle.index_keep.specs.Walk.{paths_of}
 use Rattle.index_keep.proofs.ListLemmas.{none-of, one_of-place, passes-more, some-map}
 use Rattle.index_keep.proofs.WalkLemmas.{decided-absent, decided-known}
 use Rattle.index_keep.proofs.stage.Stage.lacking.Goals as goal
 
 pub loop-place-preserved-then-is_some : goal.loop-place-preserved-then-is_some
 loop-place-preserved-then-is_some g c =
-    let world : World = world_of (view_of g.F.Names.view c.args.files.now) c.args.settings.now in
+    let world : World = view_world (view_of g.F.Names.view c.args.files.now) c.args.settings.now in
     let known = c.args.self.now.known in
     let texts = c.args.self.now.paths.items in
     let text = c.index.result.now in
@@ -41,7 +41,7 @@ returns-in-Some-clause-comes g c = λ passed.
     let inside : place < length texts = omega arith in
     let path = c.as_str-path.result.now in
     let found = c.in-Some.found in
-    let now : World = world_of (view_of g.F.Names.view c.loop-place.files) c.args.settings.now in
+    let now : World = view_world (view_of g.F.Names.view c.loop-place.files) c.args.settings.now in
     let is = subst (IsFoundOf now path) c.in-Some.is c.in_ok-found.ensures.found in (
       before.passed passed,
       record {
@@ -54,7 +54,7 @@ returns-in-Some-clause-comes g c = λ passed.
 
 pub loop-place-preserved : goal.loop-place-preserved
 loop-place-preserved g c =
-    let world : World = world_of (view_of g.F.Names.view c.args.files.now) c.args.settings.now in
+    let world : World = view_world (view_of g.F.Names.view c.args.files.now) c.args.settings.now in
     let known = c.args.self.now.known in
     let texts = c.args.self.now.paths.items in
     let text = c.index.result.now in
@@ -62,7 +62,7 @@ loop-place-preserved g c =
     let before = c.loop-place.invariant in
     let inside : place < length texts = omega arith in
     let path = c.as_str-path.result.now in
-    let now : World = world_of (view_of g.F.Names.view c.loop-place.files) c.args.settings.now in
+    let now : World = view_world (view_of g.F.Names.view c.loop-place.files) c.args.settings.now in
     let gone : has_makefile now path ≡ false = subst (IsFoundOf now path) c.in_default.is c.in_ok-found.ensures.found in
     let absent : has_makefile world (string_bytes text) ≡ false =
     ap (has_makefile world) (sym c.as_str-path.ensures.value) ∙ subst (λ (files : FileMap). let w : World = (files, c.args.settings.now) in has_makefile w path ≡ false) before.leaves.files gone in

@@ -1,7 +1,7 @@
 -- Nothing has changed.
 use Rattle.std.proofs.Common.{◌∙◌, ap, sym, subst}
 use Rattle.table_facts.specs.States.{state_of}
-use Rattle.index_store.specs.PortTable.{AreNoted, stored_by, profiles_by}
+use Rattle.index_store.specs.PortTable.{AreNotedPaths, stored_by, profiles_by}
 use Rattle.index_store.proofs.Keeping.{still_with, still_entries}
 use Rattle.index_store.proofs.store.IndexStorePathRows.rows.Goals as goal
 
@@ -10,7 +10,7 @@ invariant_of-self c =
     let old = state_of c.self.inside.conn in
     let new = state_of c.read_rows.new.conn in (
       still_with c.self.inside.has_earlier old new c.self.invariant.0 c.read_rows.ensures.stays,
-      subst (λ es. AreNoted c.self.inside.paths (stored_by es)) (sym (still_entries old new c.read_rows.ensures.stays)) c.self.invariant.1,
+      subst (λ es. AreNotedPaths c.self.inside.paths (stored_by es)) (sym (still_entries old new c.read_rows.ensures.stays)) c.self.invariant.1,
     )
 
 pub returns-clause-same : goal.returns-clause-same

@@ -1,6 +1,6 @@
 -- Nothing is spent, and what is left of the index takes no more turns than the whole.
 use Rattle.std.proofs.Common.{refl, subst, sym}
-use Rattle.kept_ports.specs.Pending.{IsSpentOnIndex}
+use Rattle.kept_ports.specs.UnderWay.{IsSpentOnIndex}
 use Rattle.kept_ports.proofs.SpendingLemmas.{begins}
 use Rattle.kept_ports.proofs.TurnsLemmas.{begins-few}
 use Rattle.kept_ports.proofs.under_way.UnderWay.of_index.Goals as goal

@@ -1,7 +1,7 @@
 -- The map of texts answers as its map of bytes.
 use Rattle.std.proofs.Common.{◌∙◌, ap}
 use Rattle.std.specs.FinMap as finite
-use Rattle.mk_files.specs.Holding.{Holding}
+use Rattle.mk_files.specs.MemoryFiles.{Holding}
 use Rattle.mk_files.proofs.HeldFiles.{get-view}
 use Rattle.mk_files.proofs.memory_files.MemoryFiles.get.Goals as goal
 

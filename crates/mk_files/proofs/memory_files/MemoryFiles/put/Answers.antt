@@ -1,7 +1,7 @@
 -- One name has another content.
 use Rattle.std.proofs.Common.{◌∙◌, ap}
 use Rattle.std.specs.FinMap as finite
-use Rattle.mk_files.specs.Holding.{Holding, files_of, with_file}
+use Rattle.mk_files.specs.MemoryFiles.{Holding, files_of, with_file}
 use Rattle.mk_files.proofs.HeldFiles.{files_of-insert}
 use Rattle.mk_files.proofs.memory_files.MemoryFiles.put.Goals as goal
 

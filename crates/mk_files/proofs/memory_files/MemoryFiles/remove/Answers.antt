@@ -1,7 +1,7 @@
 -- One name is gone.
 use Rattle.std.proofs.Common.{◌∙◌, ap, is_some}
 use Rattle.std.specs.FinMap as finite
-use Rattle.mk_files.specs.Holding.{Holding, files_of, without_file}
+use Rattle.mk_files.specs.MemoryFiles.{Holding, files_of, without_file}
 use Rattle.mk_files.proofs.HeldFiles.{files_of-remove, get-view}
 use Rattle.mk_files.proofs.memory_files.MemoryFiles.remove.Goals as goal
 

@@ -1,7 +1,7 @@
 -- The map of texts answers as its map of bytes; there is no log.
 use Rattle.std.proofs.Common.{◌∙◌, ap, is_some, refl}
 use Rattle.std.specs.FinMap as finite
-use Rattle.mk_files.specs.Holding.{Holding}
+use Rattle.mk_files.specs.MemoryFiles.{Holding}
 use Rattle.mk_files.proofs.HeldFiles.{get-view}
 use Rattle.mk_files.proofs.memory_files.MemoryFilesNames.has.Goals as goal
 

@@ -3,7 +3,7 @@ use Rattle.std.specs.List.{zip}
 use Rattle.std.proofs.lemmas.List.{length-map, drop-map}
 use Rattle.mk_text.specs.Words.{span_text}
 use Rattle.mk_loop.specs.Header.{turns_of}
-use Rattle.mk_loop.specs.Scopes.{names_in}
+use Rattle.mk_loop.specs.Scopes.{loop_variables}
 use Rattle.mk_loop.proofs.TurnSteps.{length-turns, turn-at, turn-within}
 use Rattle.mk_loop.proofs.turn.Iteration.new.Goals as goal
 
@@ -22,7 +22,7 @@ invariant_of-result c =
 pub returns : goal.returns
 returns c =
     let turns = c.args.turns.value in
-    let names = names_in turns in
+    let names = loop_variables turns in
     let words = map (span_text (string_bytes turns.text)) turns.words.items in
     let below = subst (λ n. c.args.index < n) (length-turns (length words / length names) names words) c.requires in
     turn-at (length words / length names) c.args.index names words below

@@ -1,10 +1,10 @@
 use Rattle.std.proofs.Common.{◌≡◌, ◌∙◌, ◌-◌, ◌∷◌, ◌&&◌, Ok, Some, None, ap, subst, arith}
 use Rattle.std.proofs.lemmas.Result.{err_from_is_err_and}
-use Rattle.mk_base.specs.Stopping.{StopsPurelyAt}
-use Rattle.mk_ast.specs.Parsing.{parsed}
-use Rattle.mk_files.specs.Asking.{account}
+use Rattle.mk_base.specs.Stops.{StopsPurelyAt}
+use Rattle.mk_ast.specs.Parser.{parsed}
+use Rattle.mk_files.specs.Questions.{account}
 use Rattle.mk_eval.specs.Includes.{Place}
-use Rattle.mk_eval.specs.Views.{file_of}
+use Rattle.mk_eval.specs.Views.{included_file}
 use Rattle.mk_step.specs.Machine.{place_at, read_lines, modules_at}
 use Rattle.mk_step.specs.Views.{site_of, frame_of, inner_frames}
 use Rattle.mk_step.proofs.Stepping.{line-stops, line-alone, line-reads, line-unread, may-open, found-some}
@@ -58,7 +58,7 @@ returns-in_ok-of_line-in-Some-clause-gives g c =
     let placed = c.here-here.ensures.place files ∙ ap (λ site. place_at files c.args.self.now.makefile (site_of site)) c.deref.ensures in
     line-reads c.here-here.result files c.args.self.now.makefile site c.here-here.result.loops.now placed
     (c.here-here.ensures.loops ∙ ap (λ site. (site_of site).loops) c.deref.ensures)
-    c.args.line.now c.args.self.now.state (account c.args.self.now.budget (view c.args.files.now)) new (file_of included) end frame (inner_frames c.in_ok-of_line-in-Some.field-0)
+    c.args.line.now c.args.self.now.state (account c.args.self.now.budget (view c.args.files.now)) new (included_file included) end frame (inner_frames c.in_ok-of_line-in-Some.field-0)
     (found-some _ new c.in_ok-open_line.field-0 end (Some included) c.in-Some.is c.in_ok-open_line.ensures.gives)
     (may-open c.here-here.result.levels site.levels c.args.self.now.budget c.open_line.new.budget c.in_ok-open_line.field-0 included (ap (λ (place : Place). place.levels) placed) c.in-Some.is c.in_ok-open_line.ensures.opens)
     (subst (λ levels. read_lines included.name (levels - 1) (parsed included.content) new end ≡ Ok ((new, Some frame), end)) (ap (λ site. site.levels) c.deref-in-Some.ensures) (c.in_ok-lines-in-Some.ensures.gives new end))
@@ -80,7 +80,7 @@ returns-in_err-lines-in-Some-clause-gives g c =
     rw (p.1, p.2)
     (line-unread c.here-here.result files c.args.self.now.makefile site c.here-here.result.loops.now placed
     (c.here-here.ensures.loops ∙ ap (λ site. (site_of site).loops) c.deref.ensures)
-    c.args.line.now c.args.self.now.state (account c.args.self.now.budget (view c.args.files.now)) new (file_of included) end stop
+    c.args.line.now c.args.self.now.state (account c.args.self.now.budget (view c.args.files.now)) new (included_file included) end stop
     (found-some _ new c.in_ok-open_line.field-0 end (Some included) c.in-Some.is c.in_ok-open_line.ensures.gives)
     (may-open c.here-here.result.levels site.levels c.args.self.now.budget c.open_line.new.budget c.in_ok-open_line.field-0 included (ap (λ (place : Place). place.levels) placed) c.in-Some.is c.in_ok-open_line.ensures.opens)
     (subst (λ levels. StopsPurelyAt stop end (read_lines included.name (levels - 1) (parsed included.content) new end)) (ap (λ site. site.levels) c.deref-in-Some.ensures) (c.in_err-lines-in-Some.ensures.gives new end)))

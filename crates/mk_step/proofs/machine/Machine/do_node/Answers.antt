@@ -1,6 +1,6 @@
 use Rattle.std.proofs.Common.{◌∙◌, ◌∷◌, [], sym, ap}
 use Rattle.std.proofs.lemmas.Result.{err_from_is_err_and}
-use Rattle.mk_files.specs.Asking.{account}
+use Rattle.mk_files.specs.Questions.{account}
 use Rattle.mk_step.specs.Machine.{place_at}
 use Rattle.mk_step.specs.Views.{site_of, frame_at, inner_frames}
 use Rattle.mk_step.proofs.Stepping.{choice-stops, choice-goes, loop-stops}

@@ -3,7 +3,7 @@ use Rattle.std.proofs.lemmas.Result.{err_from_is_err_and}
 use Rattle.mk_base.specs.Meter.{IsLater-on}
 use Rattle.mk_step.specs.Points.{Point}
 use Rattle.mk_step.specs.Views.{point_of, frame_of, frames_of}
-use Rattle.mk_step.specs.Paying.{weight, may_follow}
+use Rattle.mk_step.specs.Costs.{weight, may_follow}
 use Rattle.mk_step.proofs.Running.{Way, way-begins, way-on, way-lessens, way-fits, way-stops, way-stays, way-ends}
 use Rattle.mk_step.proofs.machine.Machine.run.Goals as goal
 

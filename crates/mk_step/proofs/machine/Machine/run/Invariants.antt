@@ -1,5 +1,5 @@
 use Rattle.mk_base.specs.Meter.{IsLater}
-use Rattle.mk_step.specs.Paying.{may_follow}
+use Rattle.mk_step.specs.Costs.{may_follow}
 use Rattle.mk_step.specs.Views.{point_of, frames_of}
 use Rattle.mk_step.proofs.Running.{Way}
 use Rattle.mk_step.proofs.machine.Machine.run.Given as goal

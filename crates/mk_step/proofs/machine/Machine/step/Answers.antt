@@ -1,7 +1,7 @@
 use Rattle.std.proofs.Common.{◌≡◌, Ok, sym, subst}
 use Rattle.std.proofs.lemmas.Result.{err_from_is_err_and}
-use Rattle.mk_base.specs.Stopping.{StopsAt, stop_of_pure}
-use Rattle.mk_files.specs.Asking.{account}
+use Rattle.mk_base.specs.Stops.{StopsAt, stop_of_pure}
+use Rattle.mk_files.specs.Questions.{account}
 use Rattle.mk_step.specs.Machine.{advance}
 use Rattle.mk_step.specs.Views.{site_of, frame_at, frames_of}
 use Rattle.mk_step.proofs.Stepping.{stops-purely}

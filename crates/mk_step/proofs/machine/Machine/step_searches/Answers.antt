@@ -1,8 +1,8 @@
 use Rattle.std.proofs.Common.{◌≡◌, ◌∙◌, ◌-◌, ◌∷◌, Ok, Some, ap, sym, subst, arith, refl}
 use Rattle.std.proofs.lemmas.Result.{err_from_is_err_and}
-use Rattle.mk_base.specs.Stopping.{StopsPurelyAt}
-use Rattle.mk_ast.specs.Parsing.{parsed}
-use Rattle.mk_files.specs.Asking.{account}
+use Rattle.mk_base.specs.Stops.{StopsPurelyAt}
+use Rattle.mk_ast.specs.Parser.{parsed}
+use Rattle.mk_files.specs.Questions.{account}
 use Rattle.mk_eval.specs.Includes.{Place}
 use Rattle.mk_step.specs.Machine as machine
 use Rattle.mk_step.specs.Machine.{place_at, read_lines}

@@ -19,21 +19,21 @@ pub returns-in_err-begin_turn-clause-gives : goal.returns-in_err-begin_turn-clau
 returns-in_err-begin_turn-clause-gives c = λ files log.
     let p = err_from_is_err_and c.from_residual.result c.from_residual.ensures.1 in
     rw (p.1, p.2)
-    (turns-stop c.here.result files c.args.self.now.makefile (site_of c.args.site.value)
-    (c.here.ensures.place files ∙ ap (λ site. place_at files c.args.self.now.makefile (site_of site)) c.deref.ensures)
-    (frames_of c.args.self.now.frames.items) c.args.self.now.state c.args.self.now.budget log c.args.line (block_of c.args.body.value.items) (turns_in c.args.turns.value) c.args.next c.requires
+    (turns-stop c.here-here.result files c.args.self.now.makefile (site_of c.args.site.value)
+    (c.here-here.ensures.place files ∙ ap (λ site. place_at files c.args.self.now.makefile (site_of site)) c.deref.ensures)
+    (frames_of c.args.self.now.frames.items) c.args.self.now.state c.args.self.now.budget log c.args.left.line (block_of c.args.left.body.value.items) (turns_in c.args.left.turns.value) c.args.left.next c.requires
     c.in_err-begin_turn.field-0.0 c.begin_turn.new.budget c.in_err-begin_turn.ensures.gives)
 
 pub returns-clause-gives : goal.returns-clause-gives
 returns-clause-gives c = λ files log.
-    turns-go c.here.result files c.args.self.now.makefile (site_of c.args.site.value)
-    (c.here.ensures.place files ∙ ap (λ site. place_at files c.args.self.now.makefile (site_of site)) c.deref.ensures)
-    (frames_of c.args.self.now.frames.items) c.args.self.now.state c.args.self.now.budget log c.args.line (block_of c.args.body.value.items) (turns_in c.args.turns.value) c.args.next c.requires
+    turns-go c.here-here.result files c.args.self.now.makefile (site_of c.args.site.value)
+    (c.here-here.ensures.place files ∙ ap (λ site. place_at files c.args.self.now.makefile (site_of site)) c.deref.ensures)
+    (frames_of c.args.self.now.frames.items) c.args.self.now.state c.args.self.now.budget log c.args.left.line (block_of c.args.left.body.value.items) (turns_in c.args.left.turns.value) c.args.left.next c.requires
     c.begin_turn.new.budget _ c.in_ok-begin_turn.ensures.gives
-    (let turn = get_or (turns_in c.args.turns.value) c.args.next [] in
-    let outer = onto c.args.self.now.frames.items c.push.new.self.items (record { site = c.args.site; to_do = Turns c.args.line c.args.body c.args.turns (c.args.next + 1) }) _ c.in_ok-push.ensures.items refl in
+    (let turn = get_or (turns_in c.args.left.turns.value) c.args.left.next [] in
+    let outer = onto c.args.self.now.frames.items c.push.new.self.items (record { site = c.args.site; to_do = Turns (record c.args.left { next = c.args.left.next + 1 }) }) _ c.in_ok-push.ensures.items refl in
     let there : site_of c.in_ok-inside.field-0.value ≡ record (site_of c.args.site.value) { loops = inside_turn (site_of c.args.site.value).loops turn } =
-    c.in_ok-inside.ensures turn (slice_get-get_or (turns_in c.args.turns.value) c.args.next [] c.requires) ∙ ap (λ site. record (site_of site) { loops = inside_turn (site_of site).loops turn }) c.deref-3.ensures in
-    ap (λ frames. machine.Lines (record (site_of c.args.site.value) { loops = inside_turn (site_of c.args.site.value).loops turn }) (block_of c.args.body.value.items) ∷ frames) outer
-    ∙ onto c.push.new.self.items c.push-2.new.self.items (record { site = c.in_ok-inside.field-0; to_do = Lines c.in_ok-clone.field-0 0 }) _ c.in_ok-push-2.ensures.items
-    (ap (λ site. machine.Lines site (block_of c.args.body.value.items)) (sym there) ∙ ap (λ body. machine.Lines (site_of c.in_ok-inside.field-0.value) (block_of body.items)) (sym c.in_ok-clone.ensures.cases)))
+    c.in_ok-inside.ensures turn (slice_get-get_or (turns_in c.args.left.turns.value) c.args.left.next [] c.requires) ∙ ap (λ site. record (site_of site) { loops = inside_turn (site_of site).loops turn }) c.deref-3.ensures in
+    ap (λ frames. machine.Lines (record (site_of c.args.site.value) { loops = inside_turn (site_of c.args.site.value).loops turn }) (block_of c.args.left.body.value.items) ∷ frames) outer
+    ∙ onto c.push.new.self.items c.push-2.new.self.items (record { site = c.in_ok-inside.field-0; to_do = Lines (record { block = c.in_ok-clone.field-0; next = 0 }) }) _ c.in_ok-push-2.ensures.items
+    (ap (λ site. machine.Lines site (block_of c.args.left.body.value.items)) (sym there) ∙ ap (λ body. machine.Lines (site_of c.in_ok-inside.field-0.value) (block_of body.items)) (sym c.in_ok-clone.ensures.cases)))

@@ -1,6 +1,6 @@
 use Rattle.std.proofs.Common.{◌≤◌, ◌∙◌, Ok, sym, ap, subst, arith}
 use Rattle.mk_eval.specs.declared.outcome.Evaluated.{Evaluated}
-use Rattle.mk_step.specs.Turning.{RunsOn, StopsInTime}
+use Rattle.mk_step.specs.Turn.{RunsOn, StopsInTime}
 use Rattle.mk_step.specs.Views.{point_of}
 use Rattle.mk_step.proofs.Ending.{turn-more, turn-tells, turn-leaves, stop-tells, stop-leaves, stop-spends}
 use Rattle.mk_step.proofs.machine.Machine.turn.Goals as goal

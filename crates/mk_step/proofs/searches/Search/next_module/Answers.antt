@@ -2,10 +2,10 @@ use Rattle.std.proofs.Common.{◌≡◌, ◌<◌, ◌+◌, ◌∙◌, Vec, Strin
 use Rattle.std.proofs.lemmas.Result.{err_from_is_err_and}
 use Rattle.mk_base.specs.Meter.{IsLater-on}
 use Rattle.mk_base.specs.Outcome.{after}
-use Rattle.mk_base.specs.Stopping.{StopsAt-whole}
-use Rattle.mk_files.specs.Asking.{account}
-use Rattle.mk_files.specs.Looking.{AfterQuestions-on, LeavesAtStop-on}
-use Rattle.mk_eval.specs.Views.{place_of, file_of}
+use Rattle.mk_base.specs.Stops.{StopsAt-whole}
+use Rattle.mk_files.specs.Questions.{account}
+use Rattle.mk_files.specs.AfterQuestions.{AfterQuestions-on, LeavesAtStop-on}
+use Rattle.mk_eval.specs.Views.{place_of_file, included_file}
 use Rattle.mk_step.proofs.Searching.{Found, later, word-at, is-found, is-missed, given-word}
 use Rattle.mk_step.proofs.searches.Search.next_module.Goals as goal
 
@@ -24,7 +24,7 @@ returns-in_err-opened-clause-gives g c =
     (StopsAt-whole c.in_err-opened.field-0.0 (account c.open_module.new.budget (view c.open_module.new.files)) _ _
     (λ fault at. c.loop-self.invariant.next
     ∙ word-at c.args.here c.args.self.now.line words.items c.args.state.now first now c.loop-self.invariant.asked a next c.index.result.now c.as_str-word.result.now within (given-word words c.loop-self.self.words next c.index.result.now same c.index.ensures) c.as_str-word.ensures.value
-    ∙ ap (λ r. after r (later (place_of c.args.here first.files) c.args.self.now.line words.items c.args.state.now a next)) at)
+    ∙ ap (λ r. after r (later (place_of_file c.args.here first.files) c.args.self.now.line words.items c.args.state.now a next)) at)
     c.in_err-opened.ensures.gives)
 
 pub returns-in_err-opened-clause-asks : goal.returns-in_err-opened-clause-asks
@@ -48,9 +48,9 @@ returns-then-is_some-clause-gives g c =
     let within : next < length words.items = omega (arith, c.loop-self-test.true, c.len.ensures, c.loop-self.self.words.ok.0, ap (λ (words : Vec (String Global) Global). length words.items) same) in
     c.loop-self.invariant.next
     ∙ word-at c.args.here c.args.self.now.line words.items c.args.state.now first now c.loop-self.invariant.asked a next c.index.result.now c.as_str-word.result.now within (given-word words c.loop-self.self.words next c.index.result.now same c.index.ensures) c.as_str-word.ensures.value
-    ∙ ap (λ r. after r (later (place_of c.args.here first.files) c.args.self.now.line words.items c.args.state.now a next)) c.in_ok-opened.ensures.gives
+    ∙ ap (λ r. after r (later (place_of_file c.args.here first.files) c.args.self.now.line words.items c.args.state.now a next)) c.in_ok-opened.ensures.gives
     ∙ is-found c.args.here c.args.self.now.line words.items c.args.state.now first now c.loop-self.invariant.asked a next opened end c.if-is_some.ensures
-    ∙ ap (λ (words : Vec (String Global) Global). let found : Found = Ok (((c.args.state.now, option_map file_of opened), map string_bytes (drop (next + 1) words.items)), end) in found) (sym same)
+    ∙ ap (λ (words : Vec (String Global) Global). let found : Found = Ok (((c.args.state.now, option_map included_file opened), map string_bytes (drop (next + 1) words.items)), end) in found) (sym same)
 
 pub returns-then-is_some-clause-asks : goal.returns-then-is_some-clause-asks
 returns-then-is_some-clause-asks g c =
@@ -71,7 +71,7 @@ loop-self-preserved g c =
     record {
       next = c.loop-self.invariant.next
           ∙ word-at c.args.here c.args.self.now.line words.items c.args.state.now first now c.loop-self.invariant.asked a next c.index.result.now c.as_str-word.result.now within (given-word words c.loop-self.self.words next c.index.result.now same c.index.ensures) c.as_str-word.ensures.value
-          ∙ ap (λ r. after r (later (place_of c.args.here first.files) c.args.self.now.line words.items c.args.state.now a next)) c.in_ok-opened.ensures.gives
+          ∙ ap (λ r. after r (later (place_of_file c.args.here first.files) c.args.self.now.line words.items c.args.state.now a next)) c.in_ok-opened.ensures.gives
           ∙ is-missed c.args.here c.args.self.now.line words.items c.args.state.now first now c.loop-self.invariant.asked a next c.in_ok-opened.opened end c.if-is_some.ensures;
       words = same;
       number = c.loop-self.invariant.number;

@@ -4,7 +4,7 @@ use Rattle.std.proofs.lemmas.List.Folds.{list_all-append}
 use Rattle.std.specs.List.{list_all}
 use Rattle.std.specs.String.{string_bytes}
 use Rattle.pkg_name.specs.Name.{NameParts}
-use Rattle.pkg_spec.specs.Admitting.{NameSet, set_of_alternative, with_stem, meeting, having, lacking}
+use Rattle.pkg_spec.specs.NameSet.{NameSet, set_of_alternative, with_stem, meeting, having, lacking_flavor}
 use Rattle.pkg_spec.specs.Seen.{alternative_seen, comparison_seen, admits_flavors}
 use Rattle.pkg_spec.specs.declared.alternatives.Alternative.{Alternative}
 use Rattle.pkg_spec.proofs.alternatives.Alternative.admits.Goals as goal
@@ -23,13 +23,13 @@ after_stem alternative name stem is =
     let in_set : NameSet → Bool = λ s. s name in
     let comparisons = map meeting (map comparison_seen alternative.comparisons.items) in
     let wanted = map having (map string_bytes alternative.wanted.items) in
-    let forbidden = map lacking (map string_bytes alternative.forbidden.items) in
+    let forbidden = map lacking_flavor (map string_bytes alternative.forbidden.items) in
     ap (λ b. b && list_all in_set (comparisons ++ wanted ++ forbidden)) is
     ∙ ap (λ b. stem && b) (list_all-append in_set (comparisons ++ wanted) forbidden ∙ ap (λ b. b && list_all in_set forbidden) (list_all-append in_set comparisons wanted)
     ∙ regrouped (list_all in_set comparisons) (list_all in_set wanted) (list_all in_set forbidden)
     ∙ ap (λ b. b && (list_all in_set wanted && list_all in_set forbidden)) (each meeting comparison_seen name alternative.comparisons.items)
     ∙ ap (λ b. list_all (λ comparison. meeting (comparison_seen comparison) name) alternative.comparisons.items && (b && list_all in_set forbidden)) (each having string_bytes name alternative.wanted.items)
-    ∙ ap (λ b. list_all (λ comparison. meeting (comparison_seen comparison) name) alternative.comparisons.items && (list_all (λ flavor. having (string_bytes flavor) name) alternative.wanted.items && b)) (each lacking string_bytes name alternative.forbidden.items))
+    ∙ ap (λ b. list_all (λ comparison. meeting (comparison_seen comparison) name) alternative.comparisons.items && (list_all (λ flavor. having (string_bytes flavor) name) alternative.wanted.items && b)) (each lacking_flavor string_bytes name alternative.forbidden.items))
 
 pub returns-then-fits_stem : goal.returns-then-fits_stem
 returns-then-fits_stem c =

@@ -2,7 +2,7 @@
 use Rattle.std.proofs.Common.{◌≡◌, ◌∙◌, ap, sym, refl, ◌||◌, List, [], ◌∷◌, map}
 use Rattle.std.specs.List.{list_any}
 use Rattle.pkg_name.specs.Name.{NameParts}
-use Rattle.pkg_spec.specs.Admitting.{admitted_by, set_of, set_of_reading, set_of_alternative}
+use Rattle.pkg_spec.specs.NameSet.{admitted_by, set_of, set_of_reading, set_of_alternative}
 use Rattle.pkg_spec.specs.Seen.{alternative_seen}
 use Rattle.pkg_spec.specs.declared.alternatives.Alternative.{Alternative}
 use Rattle.pkg_spec.proofs.spec.Spec.matches.Goals as goal

@@ -1,7 +1,7 @@
 use Rattle.std.proofs.Common.{ap, sym, subst, ◌∙◌, arith, List, length}
 use Rattle.std.proofs.lemmas.List.{with_items_is}
 use Rattle.ports_core.specs.Keys.{key_texts}
-use Rattle.ports_core.specs.Connections.{Fits}
+use Rattle.ports_core.specs.Connections.{MayHappenTo}
 use Rattle.ports_core.specs.Jobs.{AreForFirst}
 use Rattle.ports_core.specs.Opened.{OpenAnd}
 use Rattle.ports_core.specs.Places.{AreSeated}
@@ -14,8 +14,8 @@ use Rattle.ports_core.proofs.service.Service.hear.Goals as goal
 
 pub hear_connection-requires-clause-places : goal.hear_connection-requires-clause-places
 hear_connection-requires-clause-places g c =
-    open_places c.self.inside.queues.items c.deref_mut.result.now c.self.inside.connections.entries c.args.conn (Fits c.args.event.now) c.deref_mut.ensures.value c.self.invariant.few c.self.invariant.seated
-    (subst (λ (s : State). OpenAnd (connection_of c.args.conn s) (Fits c.args.event.now)) (sym c.self.view_is) c.requires)
+    open_places c.self.inside.queues.items c.deref_mut.result.now c.self.inside.connections.entries c.args.conn (MayHappenTo c.args.event.now) c.deref_mut.ensures.value c.self.invariant.few c.self.invariant.seated
+    (subst (λ (s : State). OpenAnd (connection_of c.args.conn s) (MayHappenTo c.args.event.now)) (sym c.self.view_is) c.requires)
 
 pub invariant_of-self : goal.invariant_of-self
 invariant_of-self g c =

@@ -1,5 +1,5 @@
 use Rattle.std.proofs.Common.{◌≤◌, ◌∙◌, ap, length, arith, sym, subst}
-use Rattle.ports_http.specs.Incoming.{fed, room_of}
+use Rattle.ports_http.specs.UnreadBytes.{fed, room_of}
 use Rattle.ports_http.proofs.ConnLemmas.{fed_within, unread_held, fed_view, fed_ok}
 use Rattle.ports_http.proofs.conn.Conn.feed.Goals as goal
 

@@ -1,5 +1,5 @@
-use Rattle.std.proofs.Common.{sym, ◌∙◌, ap, refl, subst}
-use Rattle.ports_http.specs.Incoming.{Incoming, Removes}
+use Rattle.std.proofs.Common.{sym, ◌∙◌, ap, refl, subst, Err}
+use Rattle.ports_http.specs.UnreadBytes.{Incoming, Removes, TakesOrLoses}
 use Rattle.ports_http.specs.Streams.{Refuses}
 use Rattle.ports_http.specs.Spans.{IsMissing}
 use Rattle.ports_http.proofs.ConnLemmas.{slice_from, removes, waits_unless_over}
@@ -17,7 +17,8 @@ pub returns-in-Err : goal.returns-in-Err
 returns-in-Err c =
     let unread = ap (λ (v : Incoming). v.unread) (sym c.self.view_is)
     ∙ sym (slice_from c.deref.result.now c.self.inside.buffer.items c.self.inside.start c.deref.ensures.value) in
-    let begun = ap (λ (v : Incoming). v.over) (sym c.self.view_is) ∙ c.if-self.false in (
+    let begun = ap (λ (v : Incoming). v.over) (sym c.self.view_is) ∙ c.if-self.false in
+    subst (λ e. TakesOrLoses c.args.self.now (Err e) c.pass.new.self) (sym c.lost.ensures) (
       _,
       removes c.args.self.now c.pass.new.self _ _ c.in-Ready.whole.body.end begun unread c.in-Ready.ensures.0 c.pass.ensures,
       refl,

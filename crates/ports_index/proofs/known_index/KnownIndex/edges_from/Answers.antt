@@ -7,8 +7,8 @@ use Rattle.text_parts.specs.Order.{in_order}
 use Rattle.text_parts.specs.Ordered.{in_order-again}
 use Rattle.mk_paths.specs.World.{files_in}
 use Rattle.port_deps.specs.Roots.{RootEdgeValue}
-use Rattle.ports_index.specs.Depending.{edges_among}
-use Rattle.ports_index.specs.Naming.{AreInOrder, directories, named_at}
+use Rattle.ports_index.specs.Dependencies.{edges_among}
+use Rattle.ports_index.specs.TreePaths.{AreInOrder, directories, named_at}
 use Rattle.ports_index.specs.PathOutcomes.{outcome_at}
 use Rattle.ports_index.specs.Seen.{entries_in, known_in}
 use Rattle.ports_index.proofs.known_index.KnownIndex.edges_from.Goals as goal

@@ -1,7 +1,7 @@
 -- The dependencies follow from the rows of the paths on which the index depends.
 use Rattle.std.proofs.Common.{◌∙◌, ap, map, string_bytes}
 use Rattle.std.proofs.lemmas.Result.{IfOk-weaker}
-use Rattle.ports_index.specs.Depending.{edges_among}
+use Rattle.ports_index.specs.Dependencies.{edges_among}
 use Rattle.ports_index.specs.Seen.{entries_in, known_in}
 use Rattle.ports_index.proofs.known_index.KnownIndex.make_edges.Goals as goal
 

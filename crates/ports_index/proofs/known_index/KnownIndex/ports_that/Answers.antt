@@ -3,10 +3,10 @@ use Rattle.std.proofs.Common.{◌∙◌, ap, sym, ◌++◌, filter, map, string_
 use Rattle.std.proofs.lemmas.Result.{IfOk-weaker}
 use Rattle.text_parts.specs.Order.{in_order}
 use Rattle.text_parts.specs.Ordered.{in_order-again}
-use Rattle.ports_index.specs.Depending.{is_port_that, roots_among}
+use Rattle.ports_index.specs.Dependencies.{is_port_that, roots_among}
 use Rattle.mk_paths.specs.World.{files_in}
 use Rattle.std.specs.List.{flat_map}
-use Rattle.ports_index.specs.Naming.{AreInOrder, directories, named_at}
+use Rattle.ports_index.specs.TreePaths.{AreInOrder, directories, named_at}
 use Rattle.ports_index.specs.PathOutcomes.{outcome_at}
 use Rattle.ports_index.specs.Seen.{entries_in, known_in}
 use Rattle.ports_index.proofs.known_index.KnownIndex.ports_that.Goals as goal

@@ -1,7 +1,7 @@
 -- The roots follow from the rows of the paths on which the index depends.
 use Rattle.std.proofs.Common.{◌∙◌, ap, map, string_bytes}
 use Rattle.std.proofs.lemmas.Result.{IfOk-weaker}
-use Rattle.ports_index.specs.Depending.{roots_among}
+use Rattle.ports_index.specs.Dependencies.{roots_among}
 use Rattle.ports_index.specs.Seen.{entries_in, known_in}
 use Rattle.ports_index.proofs.known_index.KnownIndex.roots.Goals as goal
 

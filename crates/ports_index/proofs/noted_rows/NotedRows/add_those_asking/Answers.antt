@@ -6,7 +6,7 @@ use Rattle.std.proofs.lemmas.Slice.Eq.{bytes_eq-Decides}
 use Rattle.std.specs.BTreeMap.{get_by_text}
 use Rattle.std.specs.Str.{bytes_eq}
 use Rattle.ports_index.specs.AskedNames.{asks_in}
-use Rattle.ports_index.specs.Filling.{is_one_of}
+use Rattle.ports_index.specs.FilledRows.{is_one_of}
 use Rattle.ports_index.proofs.NotedLemmas.{contains-key, or-none, step-asked}
 use Rattle.ports_index.proofs.noted_rows.NotedRows.add_those_asking.Goals as goal
 

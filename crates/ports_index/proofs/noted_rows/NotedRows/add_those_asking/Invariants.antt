@@ -3,7 +3,7 @@ use Rattle.std.proofs.Common.{◌≡◌, ◌&&◌, ◌||◌, ℕ, List, map, str
 use Rattle.std.specs.BTreeMap.{get_by_text}
 use Rattle.std.specs.BTreeSet.{keys}
 use Rattle.ports_index.specs.AskedNames.{asks_in}
-use Rattle.ports_index.specs.Filling.{is_one_of}
+use Rattle.ports_index.specs.FilledRows.{is_one_of}
 use Rattle.ports_index.proofs.noted_rows.NotedRows.add_those_asking.Given as goal
 
 abbrev pub invariant-loop-path : goal.invariant-loop-path

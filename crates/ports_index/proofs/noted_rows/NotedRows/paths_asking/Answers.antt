@@ -5,7 +5,7 @@ use Rattle.std.specs.List.{list_any}
 use Rattle.std.specs.Str.{bytes_eq}
 use Rattle.text_parts.specs.Ordered.{among-in_order}
 use Rattle.ports_index.specs.AskedNames.{asks_in}
-use Rattle.ports_index.specs.Filling.{is_one_of}
+use Rattle.ports_index.specs.FilledRows.{is_one_of}
 use Rattle.ports_index.proofs.NotedLemmas.{or-none, asks-one}
 use Rattle.ports_index.proofs.noted_rows.NotedRows.paths_asking.Goals as goal
 

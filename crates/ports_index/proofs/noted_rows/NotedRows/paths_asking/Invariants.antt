@@ -4,7 +4,7 @@ use Rattle.std.specs.BTreeMap.{get_by_text}
 use Rattle.std.specs.BTreeSet.{keys}
 use Rattle.std.specs.List.{list_any}
 use Rattle.ports_index.specs.AskedNames.{asks_in}
-use Rattle.ports_index.specs.Filling.{is_one_of}
+use Rattle.ports_index.specs.FilledRows.{is_one_of}
 use Rattle.ports_index.proofs.noted_rows.NotedRows.paths_asking.Given as goal
 
 abbrev pub invariant-loop-name : goal.invariant-loop-name

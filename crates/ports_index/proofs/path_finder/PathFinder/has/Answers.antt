@@ -1,7 +1,7 @@
 -- The path ahead is one of the paths.
 use Rattle.std.proofs.Common.{◌∙◌, ap, sym, map, string_bytes, Bor, List, String, Global}
 use Rattle.std.specs.Str.{bytes_eq}
-use Rattle.ports_index.specs.Filling.{is_one_of}
+use Rattle.ports_index.specs.FilledRows.{is_one_of}
 use Rattle.ports_index.proofs.SearchLemmas.{one_of-place}
 use Rattle.ports_index.proofs.path_finder.PathFinder.has.Goals as goal
 

@@ -1,6 +1,6 @@
 -- What was written down is what the files answer.
 use Rattle.std.proofs.Common.{subst, sym}
-use Rattle.mk_eval.specs.Sharing.{Agrees}
+use Rattle.mk_eval.specs.Agreement.{Agrees}
 use Rattle.read_trace.proofs.AgreeingFiles.{Agrees-agreement}
 use Rattle.read_trace.proofs.recorder.Recorder.take_trace.Goals as goal
 

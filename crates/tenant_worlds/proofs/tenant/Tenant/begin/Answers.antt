@@ -2,15 +2,15 @@
 use Rattle.std.proofs.Common.{◌∙◌, ap, ap₂, subst, sym}
 use Rattle.ports_http.specs.Messages.{RequestMessage}
 use Rattle.index_store.specs.PortTable.{stored_by}
-use Rattle.index_keep.specs.Keeping.{refresh_of, rows_of}
-use Rattle.ports_plain.specs.Plain.{plain_request}
+use Rattle.index_keep.specs.Keeper.{refresh_of, keeper_rows}
+use Rattle.ports_plain.specs.Requests.{plain_request}
 use Rattle.ports_plain.specs.Answers.{answer_to}
 use Rattle.ports_plain.specs.Questions.{question_of}
 use Rattle.ports_plain.specs.declared.questions.Question.{Question}
 use Rattle.ports_plain.specs.declared.questions.Question.TheVariants.{OfPort, OfIndex}
-use Rattle.ports_core.specs.Answering.{plain_request_of}
+use Rattle.ports_core.specs.Answers.{plain_request_of}
 use Rattle.tenant_worlds.specs.Kept.{job_of, world_of}
-use Rattle.tenant_worlds.specs.Marking.{LeavesRows, LeavesRowsOf}
+use Rattle.tenant_worlds.specs.RowMarks.{LeavesRows, LeavesRowsOf}
 use Rattle.tenant_worlds.proofs.RowLemmas.{fresh-after}
 use Rattle.tenant_worlds.proofs.TurnLemmas.{begun-works, new-job, new-question}
 use Rattle.tenant_worlds.proofs.WorldLemmas.{if_ok}
@@ -66,9 +66,9 @@ pub returns-in-OfIndex-clause-rows : goal.returns-in-OfIndex-clause-rows
 returns-in-OfIndex-clause-rows c =
     let world = world_of c.args.self.now in
     let refresh = refresh_of stored_by c.stop.new.self in
-    let old = rows_of stored_by c.args.self.now.keeper in
-    let middle = rows_of stored_by c.stop.new.self in
-    let new = rows_of stored_by c.work_on-in-OfIndex.new.self.keeper in
+    let old = keeper_rows stored_by c.args.self.now.keeper in
+    let middle = keeper_rows stored_by c.stop.new.self in
+    let new = keeper_rows stored_by c.work_on-in-OfIndex.new.self.keeper in
     let asked = sym c.in-OfIndex.is ∙ c.in_ok-prepared.ensures
     ∙ ap₂ (λ target body. question_of (plain_request c.request.inside.method target body)) c.as_str-target.ensures.value c.as_slice.ensures.value
     ∙ ap (λ (request : RequestMessage). question_of (plain_request_of request)) c.request.view_is in

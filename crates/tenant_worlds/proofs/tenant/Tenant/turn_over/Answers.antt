@@ -2,13 +2,13 @@
 use Rattle.std.proofs.Common.{◌≡◌, ◌∙◌, subst, sym, Option, Result}
 use Rattle.std.specs.Prelude.{IfOk, IfSome}
 use Rattle.mk_paths.specs.World.{World}
-use Rattle.mk_paths.specs.declared.asking.FilesFault.{FilesFault}
+use Rattle.mk_paths.specs.declared.files.FilesFault.{FilesFault}
 use Rattle.index_store.specs.PortTable.{stored_by}
-use Rattle.index_keep.specs.Keeping.{IsKept, refresh_of, rows_of}
+use Rattle.index_keep.specs.Keeper.{IsKept, refresh_of, keeper_rows}
 use Rattle.index_keep.specs.Turns.{StayFresh}
 use Rattle.kept_ports.specs.TurnsLeft.{TurnsOn}
 use Rattle.kept_ports.specs.declared.under_way.Turned.{Turned}
-use Rattle.tenant_worlds.specs.Kept.{IsRight}
+use Rattle.tenant_worlds.specs.Kept.{IsRightTenant}
 use Rattle.tenant_worlds.proofs.KeptLemmas.{idle_right}
 use Rattle.tenant_worlds.proofs.tenant.Tenant.turn_over.Goals as goal
 
@@ -29,8 +29,8 @@ returns-clause-fresh c =
     let world : World = c.args.self.now.store in
     let asked_in : World = (c.args.self.now.store.0, c.args.self.now.settings) in
     let world_is : asked_in ≡ world = λ i. (c.args.self.now.store.0, c.requires.right.settings i) in
-    let old = rows_of stored_by c.args.self.now.keeper in
-    subst (λ (w : World). StayFresh w old (rows_of stored_by c.ask_tenant.new.self.keeper.now)) world_is c.ask_tenant.ensures.asked.fresh
+    let old = keeper_rows stored_by c.args.self.now.keeper in
+    subst (λ (w : World). StayFresh w old (keeper_rows stored_by c.ask_tenant.new.self.keeper.now)) world_is c.ask_tenant.ensures.asked.fresh
 
 pub returns-clause-right : goal.returns-clause-right
 returns-clause-right c =
@@ -38,6 +38,6 @@ returns-clause-right c =
     let asked_in : World = (c.args.self.now.store.0, c.args.self.now.settings) in
     let world_is : asked_in ≡ world = λ i. (c.args.self.now.store.0, c.requires.right.settings i) in
     let kept = c.ask_tenant.new.self.keeper.now in
-    subst (λ (w : World). IsRight (record { store = w; settings = c.args.self.now.settings; keeper = kept; job = c.args.self.now.job })) (sym c.ask_tenant.ensures.same)
+    subst (λ (w : World). IsRightTenant (record { store = w; settings = c.args.self.now.settings; keeper = kept; job = c.args.self.now.job })) (sym c.ask_tenant.ensures.same)
     (idle_right world c.args.self.now.settings kept c.args.self.now.job c.requires.idle.none c.requires.right.settings
     (subst (λ (w : World). IsKept stored_by w kept) world_is c.ask_tenant.ensures.asked.kept))

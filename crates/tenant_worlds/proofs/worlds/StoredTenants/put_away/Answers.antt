@@ -2,7 +2,7 @@
 use Rattle.std.proofs.Common.{◌∙◌, List, Option, length, ap, ap₂, subst, sym, arith}
 use Rattle.mk_paths.specs.World.{World}
 use Rattle.ports_core.specs.Jobs.{TenantJob}
-use Rattle.tenant_worlds.specs.Kept.{AreRight, jobs_of, worlds_of}
+use Rattle.tenant_worlds.specs.Kept.{AreRightTenants, jobs_of, worlds_of}
 use Rattle.tenant_worlds.specs.Shared.{sharing_in}
 use Rattle.tenant_worlds.specs.Stored.{Stored}
 use Rattle.tenant_worlds.proofs.KeptLemmas.{refill_same}
@@ -23,5 +23,5 @@ invariant_of-self c =
     let old = c.self.inside.tenants.items in
     let new = c.put_away_at.new.tenants in
     let count = c.put_away_at.ensures.count ∙ ap length c.deref_mut.ensures.value in
-    let right = c.put_away_at.ensures.right (subst AreRight (sym c.deref_mut.ensures.value) c.self.invariant) in
-    subst AreRight (sym (refill_same c.self.inside.tenants.len old new count (omega (arith, c.self.inside.tenants.ok)))) right
+    let right = c.put_away_at.ensures.right (subst AreRightTenants (sym c.deref_mut.ensures.value) c.self.invariant) in
+    subst AreRightTenants (sym (refill_same c.self.inside.tenants.len old new count (omega (arith, c.self.inside.tenants.ok)))) right

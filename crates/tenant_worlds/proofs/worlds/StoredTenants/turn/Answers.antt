@@ -2,12 +2,12 @@
 use Rattle.std.proofs.Common.{◌<◌, ◌≢◌, ◌∙◌, ℕ, List, length, subst, sym, ap, arith, inr}
 use Rattle.std.specs.Prelude.{slice_get}
 use Rattle.ports_http.specs.Messages.{ReplyMessage}
-use Rattle.ports_core.specs.Charging.{Charges, FitsTurn}
+use Rattle.ports_core.specs.Charges.{Charges, FitsTurn}
 use Rattle.ports_core.specs.Jobs.{IsForRequest, job_in, job_after, spent_on}
 use Rattle.tenant_worlds.specs.declared.tenant.Tenant.{Tenant}
 use Rattle.tenant_worlds.specs.Stored.{Stored}
-use Rattle.tenant_worlds.specs.Kept.{AreRight, job_at, world_at}
-use Rattle.tenant_worlds.specs.Turning.{AnswersOver, ChargesOver}
+use Rattle.tenant_worlds.specs.Kept.{AreRightTenants, job_at, world_at}
+use Rattle.tenant_worlds.specs.Turn.{AnswersOver, ChargesOver}
 use Rattle.tenant_worlds.proofs.KeptLemmas.{refill_same}
 use Rattle.tenant_worlds.proofs.ShareLemmas.{IsUsed-cache}
 use Rattle.tenant_worlds.proofs.JobLemmas.{job_same}
@@ -23,7 +23,7 @@ turn_at-requires-clause-there c =
     subst (λ n. c.args.tenant < n) (sym (ap length c.deref_mut.ensures.value)) within
 
 pub turn_at-requires-clause-right : goal.turn_at-requires-clause-right
-turn_at-requires-clause-right c = subst AreRight (sym c.deref_mut.ensures.value) c.self.invariant
+turn_at-requires-clause-right c = subst AreRightTenants (sym c.deref_mut.ensures.value) c.self.invariant
 
 pub turn_at-requires-clause-for_request : goal.turn_at-requires-clause-for_request
 turn_at-requires-clause-for_request c =
@@ -110,7 +110,7 @@ invariant_of-self c =
     let items = c.self.inside.tenants.items in
     let new = c.turn_at.new.tenants in
     let lent = c.turn_at.ensures.count ∙ ap length c.deref_mut.ensures.value in
-    subst AreRight (sym (refill_same c.self.inside.tenants.len items new lent (omega (arith, c.self.inside.tenants.ok)))) c.turn_at.ensures.right
+    subst AreRightTenants (sym (refill_same c.self.inside.tenants.len items new lent (omega (arith, c.self.inside.tenants.ok)))) c.turn_at.ensures.right
 
 pub returns-clause-short : goal.returns-clause-short
 returns-clause-short c =

@@ -2,7 +2,7 @@
 use Rattle.std.proofs.Common.{◌≡◌, ◌∙◌, ◌<◌, sym, ap, subst, arith, ℕ, List, [], ◌∷◌, ◌++◌, set, length, Some, Bor}
 use Rattle.std.proofs.lemmas.List.{map-append, length-map, length-set}
 use Rattle.text_parts.specs.Cuts.{now_all}
-use Rattle.text_graph.specs.Numbering.{place_of, texts_met, EachOnce}
+use Rattle.text_graph.specs.Numbers.{place_of, texts_met, EachOnce}
 use Rattle.text_graph.specs.Slots.{slot_of, other_of}
 use Rattle.text_graph.proofs.Numbered.{place-stays, place-last, once-more}
 use Rattle.text_graph.proofs.Slots.{Knows, new_in_slot, knows-first}

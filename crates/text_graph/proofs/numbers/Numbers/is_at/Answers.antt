@@ -3,7 +3,7 @@ use Rattle.std.proofs.Common.{◌≡◌, ◌<◌, ◌∙◌, sym, ap, arith, ℕ
 use Rattle.std.proofs.lemmas.List.{length-map, get_or-map}
 use Rattle.std.specs.Str.{bytes_eq}
 use Rattle.general_facts.specs.Texts.{bytes_eq-sym}
-use Rattle.text_graph.specs.Numbering.{place_of, text_at, texts_met}
+use Rattle.text_graph.specs.Numbers.{place_of, text_at, texts_met}
 use Rattle.text_graph.proofs.Members.{equal_texts}
 use Rattle.text_graph.proofs.numbers.Numbers.is_at.Goals as goal
 

@@ -7,7 +7,7 @@ use Rattle.std.specs.Cmp.Lexicographic.{slice_cmp}
 use Rattle.std.specs.Map.{lookup}
 use Rattle.std.specs.Ordering.{nat_cmp}
 use Rattle.text_parts.specs.Cuts.{now_all}
-use Rattle.text_graph.specs.Numbering.{EachOnce, place_of, place_kept}
+use Rattle.text_graph.specs.Numbers.{EachOnce, place_of, place_kept}
 use Rattle.text_graph.specs.Slots.{slot_of}
 use Rattle.text_graph.specs.declared.numbers.TheConstants.{SLOTS}
 use Rattle.text_graph.proofs.numbers.Numbers.new.Goals as goal

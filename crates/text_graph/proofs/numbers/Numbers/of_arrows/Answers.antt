@@ -2,7 +2,7 @@
 use Rattle.std.proofs.Common.{◌≡◌, ◌∙◌, sym, ap, map, take, get_or, ◌+◌, ℕ, List, [], ◌∷◌, ◌++◌, Some, Bor}
 use Rattle.std.proofs.lemmas.List.{map_more, map_push}
 use Rattle.text_graph.specs.Arrows.{ArrowValue, arrow_seen, arrows_seen}
-use Rattle.text_graph.specs.Numbering.{place_of, texts_met}
+use Rattle.text_graph.specs.Numbers.{place_of, texts_met}
 use Rattle.text_graph.specs.declared.arrow.Arrow.{Arrow}
 use Rattle.text_graph.specs.declared.numbers.NumberedArrow.{NumberedArrow}
 use Rattle.text_graph.proofs.Numbered.{numbers-next, begins, ends, texts_from, texts_to}

@@ -1,7 +1,7 @@
 -- The arrows up to here, by numbers.
 use Rattle.std.proofs.Common.{map, take}
 use Rattle.text_graph.specs.Arrows.{ArrowValue, arrows_seen}
-use Rattle.text_graph.specs.Numbering.{texts_met, AreNumbers, MeetsMore}
+use Rattle.text_graph.specs.Numbers.{texts_met, AreNumbers, MeetsMore}
 use Rattle.text_graph.specs.declared.numbers.NumberedArrow.{NumberedArrow}
 use Rattle.text_graph.proofs.numbers.Numbers.of_arrows.Given as goal
 

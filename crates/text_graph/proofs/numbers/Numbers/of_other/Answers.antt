@@ -7,7 +7,7 @@ use Rattle.std.specs.BTreeMap.{UpdatesBy}
 use Rattle.std.specs.Cmp.Lexicographic.{slice_cmp}
 use Rattle.std.specs.Ordering.{nat_cmp}
 use Rattle.text_parts.specs.Cuts.{now_all}
-use Rattle.text_graph.specs.Numbering.{place_of, texts_met, EachOnce}
+use Rattle.text_graph.specs.Numbers.{place_of, texts_met, EachOnce}
 use Rattle.text_graph.specs.Slots.{slot_of, other_of}
 use Rattle.text_graph.proofs.Numbered.{place-stays, place-last, once-more}
 use Rattle.text_graph.proofs.Slots.{Knows, among_others, knows-other}

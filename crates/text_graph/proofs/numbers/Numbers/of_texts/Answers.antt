@@ -2,7 +2,7 @@
 use Rattle.std.proofs.Common.{◌∙◌, sym, ap, map, take, get_or, ℕ, List, [], Some, Bor}
 use Rattle.std.proofs.lemmas.List.{map_more}
 use Rattle.text_parts.specs.Cuts.{now_all}
-use Rattle.text_graph.specs.Numbering.{place_of, texts_met}
+use Rattle.text_graph.specs.Numbers.{place_of, texts_met}
 use Rattle.text_graph.proofs.Numbered.{numbers-next}
 use Rattle.text_graph.proofs.numbers.Numbers.of_texts.Goals as goal
 

@@ -1,7 +1,7 @@
 -- The numbers of the texts up to here.
 use Rattle.std.proofs.Common.{take}
 use Rattle.text_parts.specs.Cuts.{now_all}
-use Rattle.text_graph.specs.Numbering.{texts_met, AreNumbers, MeetsMore}
+use Rattle.text_graph.specs.Numbers.{texts_met, AreNumbers, MeetsMore}
 use Rattle.text_graph.proofs.numbers.Numbers.of_texts.Given as goal
 
 abbrev pub invariant-loop-text : goal.invariant-loop-text

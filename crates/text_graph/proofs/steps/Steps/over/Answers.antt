@@ -1,7 +1,7 @@
 -- One more arrow.
 use Rattle.std.proofs.Common.{◌≡◌, ◌∙◌, ◌<◌, sym, ap, arith, map, take, get_or, set, length, ℕ, List, [], ◌∷◌, ◌++◌, Vec, Global}
 use Rattle.std.proofs.lemmas.List.{map-set, get_or-map, take_more, length-map, length-set}
-use Rattle.text_graph.specs.Numbering.{next_numbers}
+use Rattle.text_graph.specs.Numbers.{next_numbers}
 use Rattle.text_graph.specs.declared.numbers.NumberedArrow.{NumberedArrow}
 use Rattle.text_graph.proofs.Numbered.{stepped, all-nothing}
 use Rattle.text_graph.proofs.steps.Steps.over.Goals as goal

@@ -1,6 +1,6 @@
 -- The steps over the arrows up to here.
 use Rattle.std.proofs.Common.{◌≡◌, ◌<◌, ℕ, [], map, take, length, get_or}
-use Rattle.text_graph.specs.Numbering.{next_numbers}
+use Rattle.text_graph.specs.Numbers.{next_numbers}
 use Rattle.text_graph.proofs.steps.Steps.over.Given as goal
 
 abbrev pub invariant-loop-arrow : goal.invariant-loop-arrow

@@ -1,6 +1,0 @@
-use Rattle.std.proofs.Common.{refl}
-use Rattle.mk_ref.specs.UnitFacts.{IsFaultOf-left}
-use Rattle.mk_env.proofs.reading.cut.Goals as goal
-
-pub returns-in-Err-Unclosed-clause-err : goal.returns-in-Err-Unclosed-clause-err
-returns-in-Err-Unclosed-clause-err c = (refl, IsFaultOf-left c.args.text.now c.in-Err-Unclosed.field-0 c.in-Err-Unclosed.field-0-0 c.in-Err-Unclosed.ensures.fault c.in-Err-Unclosed.field-0-is)

@@ -1,0 +1,231 @@
+//! What the lines of a makefile do to its variables.
+ghost use Rattle.std.specs.Prelude.{◌≡◌, OnOk, OnErr, IfOk};
+ghost use Rattle.mk_base.specs.Meter.{IsLater};
+ghost use Rattle.mk_text.specs.Words.{words_of};
+ghost use Rattle.mk_ast.specs.declared.kinds.Operator.TheVariants as operators;
+ghost use Rattle.mk_loop.specs.Places.{made_or_line};
+ghost use Rattle.mk_eval.specs.Lines as lines;
+ghost use Rattle.mk_eval.specs.LineParts.{Executes, ExecutesKind, Directs, Assigns, AssignsFreely};
+ghost use Rattle.mk_eval.specs.Steps.{Performs, Requests};
+
+use crate::requests::Request;
+use mk_ast::{Directive, LineKind, Operator, is_word, line_kind, plain_kind};
+use mk_base::{Budget, FaultKind, PureStop};
+use mk_env::{Env, expand, expand_now};
+use mk_loop::{Iteration, put_words};
+use mk_text::{TEXT_LIMIT, words};
+use std::alloc::{AllocError, Global};
+
+/// Does what the line with this text says. The line doesn't begin, part or end a block. `loops`
+/// are the loops around it, the innermost last. The answer is the file that the line asks for, if it asks for one: opening it is all
+/// that is left to do for `.include` and `.sinclude`.
+///
+/// A line that isn't blank costs a unit, before anything else: so it is `Budget` first if no unit is
+/// left. Then the words of the loops are put in, and the line is read. An error leaves the variables
+/// as they were.
+///
+/// In a loop, the faults of `mk_loop::put_words` come first. It is `Line` if the line can't be read. For
+/// an assignment, the faults of expanding its name come next. Then it is `Line` if the expanded name
+/// isn't one word, and `Shell` for `!=`. Then come the faults of expanding the value of `:=`. It is
+/// `Length` if the text to be stored has more than 65,536 bytes. For `.undef`, `.include` and
+/// `.sinclude`, the faults are those of expanding what follows the word.
+pub fn perform(
+    alloc: Global,
+    env: &mut Env,
+    loops: &[Iteration],
+    text: &str,
+    budget: &mut Budget,
+) -> Result<Option<Request>, PureStop<FaultKind>>
+    ensures gives { Performs loops.now text.now (env.old, budget.old) (env.new, budget.new) result }
+    ensures err { OnErr result (env.new ≡ env.old) }
+    ensures later { IsLater budget.old budget.new }
+    ensures paid { IfOk result (Requests budget.old budget.new) }
+{
+    let kind = line_kind(alloc, text)?;
+    if let LineKind::Blank = kind {
+        return Ok(None);
+    }
+    budget.pay()?;
+    execute_in(alloc, env, loops, text, kind, budget)
+}
+
+/// Does what a line says whose text, as written, is of this kind.
+fn execute_in(
+    alloc: Global,
+    env: &mut Env,
+    loops: &[Iteration],
+    text: &str,
+    kind: LineKind<'_>,
+    budget: &mut Budget,
+) -> Result<Option<Request>, PureStop<FaultKind>>
+    ensures gives { Executes loops.now text.now kind.entry
+        (env.old, budget.old) (env.new, budget.new) result }
+    ensures err { OnErr result (env.new ≡ env.old) }
+    ensures later { IsLater budget.old budget.new }
+{
+    if loops.is_empty() {
+        return execute_kind(alloc, env, kind, budget);
+    }
+    match kind {
+        LineKind::Directive { word, rest } => {
+            let put = put_words(alloc, env, loops, rest, budget)?;
+            direct(alloc, env, word, put_or(&put, rest), budget)
+        }
+        LineKind::Command => {
+            put_words(alloc, env, loops, text, budget)?;
+            Ok(None)
+        }
+        _ => {
+            let put = put_words(alloc, env, loops, text, budget)?;
+            let kind = plain_kind(alloc, put_or(&put, text))?;
+            execute_kind(alloc, env, kind, budget)
+        }
+    }
+}
+
+/// A text with words put in; if none was put in, it is the text as written.
+pub(crate) fn put_or<'a>(put: &'a Option<String>, written: &'a str) -> &'a str
+    ensures { result.now ≡ made_or_line written.now put.now }
+{
+    match put {
+        Some(text) => text.as_str(),
+        None => written,
+    }
+}
+
+/// Does what a line of this kind says.
+fn execute_kind(
+    alloc: Global,
+    env: &mut Env,
+    kind: LineKind<'_>,
+    budget: &mut Budget,
+) -> Result<Option<Request>, PureStop<FaultKind>>
+    ensures gives { ExecutesKind kind.entry (env.old, budget.old) (env.new, budget.new) result }
+    ensures err { OnErr result (env.new ≡ env.old) }
+    ensures later { IsLater budget.old budget.new }
+{
+    match kind {
+        LineKind::Blank | LineKind::Command | LineKind::Dependency => Ok(None),
+        LineKind::Directive { word, rest } => direct(alloc, env, word, rest, budget),
+        LineKind::Assignment {
+            operator,
+            name,
+            value,
+        } => {
+            let name = expand(alloc, env, name, budget)?;
+            if !is_word(name.as_str()) {
+                return Err(PureStop::Fault(FaultKind::Line));
+            }
+            assign(alloc, env, operator, name.as_str(), value, budget)?;
+            Ok(None)
+        }
+        LineKind::Bad => Err(PureStop::Fault(FaultKind::Line)),
+    }
+}
+
+/// Assigns to the variable of this name.
+fn assign(
+    alloc: Global,
+    env: &mut Env,
+    operator: Operator,
+    name: &str,
+    text: &str,
+    budget: &mut Budget,
+) -> Result<(), PureStop<FaultKind>>
+    ensures gives { Assigns operator name.now text.now
+        (env.old, budget.old) (env.new, budget.new) result }
+    ensures err { OnErr result (env.new ≡ env.old) }
+    ensures later { IsLater budget.old budget.new }
+{
+    match operator {
+        Operator::Set => store(env, name, text),
+        Operator::Default => store_default(env, name, text),
+        Operator::Append => append(env, name, text),
+        Operator::Expand => {
+            let found = expand_now(alloc, env, text, budget)?;
+            store(env, name, found.as_str())
+        }
+        Operator::Shell => Err(PureStop::Fault(FaultKind::Shell)),
+    }
+}
+
+/// Gives the variable this text. It is a fault if the text is too long.
+fn store(env: &mut Env, name: &str, text: &str) -> Result<(), PureStop<FaultKind>>
+    ensures gives { AssignsFreely operators.Set name.now text.now env.old env.new result }
+    ensures err { OnErr result (env.new ≡ env.old) }
+{
+    if text.len() > TEXT_LIMIT {
+        return Err(PureStop::Fault(FaultKind::Length));
+    }
+    env.set(name, text)?;
+    Ok(())
+}
+
+/// Gives the variable this text if it has none. It is a fault if that text is too long.
+fn store_default(env: &mut Env, name: &str, text: &str) -> Result<(), PureStop<FaultKind>>
+    ensures gives { AssignsFreely operators.Default name.now text.now env.old env.new result }
+    ensures err { OnErr result (env.new ≡ env.old) }
+{
+    if text.len() > TEXT_LIMIT && !env.defined(name) {
+        return Err(PureStop::Fault(FaultKind::Length));
+    }
+    env.default(name, text)?;
+    Ok(())
+}
+
+/// Adds the text to the end of the variable's text. It is a fault if the whole is too long.
+fn append(env: &mut Env, name: &str, text: &str) -> Result<(), PureStop<FaultKind>>
+    ensures gives { AssignsFreely operators.Append name.now text.now env.old env.new result }
+    ensures err { OnErr result (env.new ≡ env.old) }
+{
+    let before = match env.get(name) {
+        Some(before) => before.len() + 1,
+        None => 0,
+    };
+    if before + text.len() > TEXT_LIMIT {
+        return Err(PureStop::Fault(FaultKind::Length));
+    }
+    env.append(name, text)?;
+    Ok(())
+}
+
+/// Does what a directive says that belongs to no block. Any other directive is a fault.
+fn direct(
+    alloc: Global,
+    env: &mut Env,
+    word: Directive,
+    text: &str,
+    budget: &mut Budget,
+) -> Result<Option<Request>, PureStop<FaultKind>>
+    ensures gives { Directs word text.now (env.old, budget.old) (env.new, budget.new) result }
+    ensures err { OnErr result (env.new ≡ env.old) }
+    ensures later { IsLater budget.old budget.new }
+{
+    match word {
+        Directive::Undef => {
+            let found = expand(alloc, env, text, budget)?;
+            undef_words(alloc, env, found.as_str())?;
+            Ok(None)
+        }
+        Directive::Include => {
+            let found = expand(alloc, env, text, budget)?;
+            Ok(Some(Request::new(found, false)))
+        }
+        Directive::Sinclude => {
+            let found = expand(alloc, env, text, budget)?;
+            Ok(Some(Request::new(found, true)))
+        }
+        _ => Err(PureStop::Fault(FaultKind::Line)),
+    }
+}
+
+/// Removes the variable of each word of this text.
+fn undef_words(alloc: Global, env: &mut Env, text: &str) -> Result<(), AllocError>
+    ensures ok { OnOk result (env.new ≡ lines.without_variables env.old (words_of text.now)) }
+    ensures err { OnErr result (env.new ≡ env.old) }
+{
+    for span in &words(alloc, text)? {
+        env.undef(span.of(text));
+    }
+    Ok(())
+}

@@ -1,7 +1,0 @@
-use Rattle.read_trace.specs.Recording.{view_of}
-use Rattle.eval_ask.specs.Asking.{CanGoOn}
-use Rattle.port_cases.proofs.asking.by_turns.Given as goal
-
--- what is asked for is under way, or at its end
-abbrev pub invariant-loop-turns : goal.invariant-loop-turns
-invariant-loop-turns g l = CanGoOn (view_of g.F.Names.view l.files).files l.turned

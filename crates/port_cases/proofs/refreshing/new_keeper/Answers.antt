@@ -1,5 +1,0 @@
--- A new keeper is right about every world.
-use Rattle.port_cases.proofs.refreshing.new_keeper.Goals as goal
-
-pub returns : goal.returns
-returns c = c.new.ensures

@@ -1,0 +1,154 @@
+//! The items that a port depends on.
+ghost use Rattle.std.specs.Prelude.{◌≡◌, map, IfOk};
+ghost use Rattle.std.specs.Option.{option_copied};
+ghost use Rattle.pkg_spec.specs.NameSet.{admitted_by};
+ghost use Rattle.port_deps.specs.Items as items;
+ghost use Rattle.port_deps.specs.ItemText.{spec_or_any};
+
+use crate::item_text::read_wanted;
+use pkg_name::PkgName;
+use pkg_path::PkgPath;
+use pkg_spec::Spec;
+use port_rules::{Depend, DependKind, PortRecord};
+use std::alloc::{AllocError, Global};
+use std::marker::Model;
+
+/// What an item asks for: the path of a port, and the packages of that port that will do.
+#[derive(Debug, Drop)]
+pub struct Wanted {
+    path: PkgPath,
+    /// A spec of these packages. Without one any package will do.
+    spec: Option<Spec>,
+}
+
+impl Model for Wanted {
+    ghost use Rattle.port_deps.specs.Items.{WantedValue};
+    ghost use Rattle.port_deps.specs.ItemText.{spec_or_any};
+
+    ghost Value = { WantedValue };
+
+    ghost view = { λ w. record { path = w.path; spec = spec_or_any w.spec } };
+}
+
+impl Wanted {
+    pub(crate) fn new(path: PkgPath, spec: Option<Spec>) -> Wanted
+        ensures { result ≡ record { path = path; spec = spec_or_any spec } }
+    {
+        Wanted { path, spec }
+    }
+
+    /// The path of the port, with its flavors and its subpackage.
+    pub fn path(&self) -> &PkgPath
+        ensures { result.now ≡ self.now.path }
+    {
+        &self.path
+    }
+
+    /// The path of the port, alone.
+    pub(crate) fn into_path(self) -> PkgPath
+        ensures { result ≡ self.path }
+    {
+        self.path
+    }
+
+    /// The text of a spec of the packages that will do: `STEM-*`, which admits any, if the item has none.
+    pub fn spec_text(&self) -> &str
+        ensures { result.now ≡ self.now.spec }
+    {
+        match &self.spec {
+            Some(spec) => spec.as_str(),
+            None => "STEM-*",
+        }
+    }
+
+    /// Whether a package of this name will do.
+    pub fn admits(&self, name: &PkgName) -> bool
+        ensures { result ≡ admitted_by self.now.spec name.now }
+    {
+        match &self.spec {
+            Some(spec) => spec.matches(name),
+            None => true,
+        }
+    }
+}
+
+/// An item of BUILD_DEPENDS, LIB_DEPENDS, RUN_DEPENDS or TEST_DEPENDS (bsd.port.mk(5)).
+#[derive(Debug, Drop)]
+pub struct Item {
+    pub(crate) kind: DependKind,
+    pub(crate) subpackage: String,
+    pub(crate) text: String,
+    pub(crate) wanted: Option<Wanted>,
+}
+
+impl Model for Item {
+    ghost use Rattle.std.specs.Prelude.{string_bytes};
+    ghost use Rattle.port_deps.specs.Items.{ItemValue};
+
+    ghost Value = { ItemValue };
+
+    ghost view = { λ i. record { kind = i.kind; subpackage = string_bytes i.subpackage; text = string_bytes i.text; wanted = i.wanted } };
+}
+
+impl Item {
+    /// The item that a dependency is.
+    fn of(alloc: Global, depend: &Depend) -> Result<Item, AllocError>
+        ensures { IfOk result (λ item. item ≡ items.item_of depend.now) }
+    {
+        Ok(Item {
+            kind: depend.kind(),
+            subpackage: String::from_str(alloc, depend.subpackage())?,
+            text: String::from_str(alloc, depend.item())?,
+            wanted: read_wanted(alloc, depend.item())?,
+        })
+    }
+
+    /// What the port needs it for.
+    pub fn kind(&self) -> DependKind
+        ensures { result ≡ self.now.kind }
+    {
+        self.kind
+    }
+
+    /// The package that needs it, with its dash; empty if it is the port as a whole, to be
+    /// built or tested.
+    pub fn subpackage(&self) -> &str
+        ensures { result.now ≡ self.now.subpackage }
+    {
+        self.subpackage.as_str()
+    }
+
+    /// The item as it is written.
+    pub fn text(&self) -> &str
+        ensures { result.now ≡ self.now.text }
+    {
+        self.text.as_str()
+    }
+
+    /// What it asks for; `None` if it can't be read.
+    pub fn wanted(&self) -> Option<&Wanted>
+        ensures { option_copied result ≡ self.now.wanted }
+    {
+        self.wanted.as_ref()
+    }
+}
+
+/// The items of a port, in the order of its dependencies.
+///
+/// An item is `[pkgspec:]pkgpath[:target]`. Empty parts that come first are dropped. If there are two
+/// parts, the first is a spec if it has no slash, or has `*` or `|`. A path ends before its first `<`,
+/// `>` or `=`, and what begins there are the versions that will do, of any stem. Without a spec any
+/// package will do.
+///
+/// An item can't be read if it has no part or more than three, or if it has a spec and versions after
+/// its path. It can't be read either if its path is no path, or its spec no spec. Then it says nothing
+/// of what it asks for. The call fails only if memory runs out.
+pub fn items(alloc: Global, port: &PortRecord) -> Result<Vec<Item>, AllocError>
+    ensures { IfOk result (λ found. found.items ≡ map items.item_of port.now.depends) }
+{
+    let mut found = Vec::new(alloc);
+    for depend in port.depends() {
+        found.push(Item::of(alloc, depend)?)?;
+    }
+    Ok(found)
+}

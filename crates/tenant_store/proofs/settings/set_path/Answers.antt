@@ -1,0 +1,9 @@
+-- The settings are written with the new path.
+use Rattle.table_facts.proofs.Ending.{on_error}
+use Rattle.tenant_store.proofs.settings.set_path.Goals as goal
+
+pub returns-in_err-settings-clause-err : goal.returns-in_err-settings-clause-err
+returns-in_err-settings-clause-err c = on_error c.from_residual.result c.settings_row.ensures.same
+
+pub returns-in_err-path_text-clause-err : goal.returns-in_err-path_text-clause-err
+returns-in_err-path_text-clause-err c = on_error c.from_residual-in_err-path_text.result c.settings_row.ensures.same

@@ -1,0 +1,16 @@
+-- The first table.
+use Rattle.std.proofs.Common.{refl}
+use Rattle.sqlite.proofs.Callers.{memory_is_clean}
+use Rattle.table_facts.specs.States.{state_of}
+use Rattle.table_facts.specs.Tables.{no_schema}
+use Rattle.table_facts.proofs.Creating.{creates}
+use Rattle.tenant_store.specs.Tables.{create_file, file_table}
+use Rattle.tenant_store.proofs.Fixed.{create_file_text}
+use Rattle.tenant_store.proofs.tables.create_files.Goals as goal
+
+pub returns : goal.returns
+returns c =
+    let new = c.execute.new.self in
+    let it = creates create_file (state_of c.args.conn.now) (state_of new) no_schema file_table c.requires.schema c.requires.autocommit
+    create_file_text refl c.in_ok-execute.field-0 (c.in_ok-execute.ensures.runs (memory_is_clean new)) in
+    record { autocommit = it.settled.autocommit; schema = it.schema_is; empty = it.empty }

@@ -1,0 +1,18 @@
+-- What the statement makes.
+use Rattle.std.proofs.Common.{string_bytes}
+use Rattle.table_facts.proofs.Ending.{ok_then}
+use Rattle.table_facts.specs.States.{state_of}
+use Rattle.tenant_store.proofs.Keeping.{ends}
+use Rattle.tenant_store.proofs.Making.{updates_settings}
+use Rattle.tenant_store.proofs.updates.update_settings.Goals as goal
+
+pub returns : goal.returns
+returns c =
+    let settings = c.args.settings.now in
+    let old = state_of c.args.conn.now in
+    let new = state_of c.run_alone.new.conn in
+    let ran = rw (c.params-to_sql.ensures, c.params-to_sql-2.ensures, c.number.ensures) at c.run_alone.ensures.ran in
+    let made = ok_then c.run_alone.result (updates_settings old new c.requires.kept
+    (string_bytes settings.path) settings.profile c.requires.path) ran in
+    let it = ends c.run_alone.result old new _ c.requires.kept made c.run_alone.ensures.err in
+    record { kept = it.0; set = it.1; err = it.2 }
