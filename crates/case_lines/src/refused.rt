@@ -4,7 +4,7 @@ use mk_paths::FilesFault;
 use refusals::OutOfMemory;
 use sqlite::{Connection, Error};
 use std::alloc::Global;
-use table_facts::Sqlite;
+use sql_facts::Sqlite;
 
 /// A refusal of memory, by a growth that can't be had. It is `NoCase` if it can be had.
 pub fn no_memory(alloc: Global) -> Result<OutOfMemory, Trouble> {

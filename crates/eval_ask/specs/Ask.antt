@@ -24,9 +24,9 @@ use Rattle.eval_cache.specs.Cache.{CacheValue, traces_at, one_more}
 use Rattle.eval_cache.specs.Keys.{Key, key_of}
 use Rattle.eval_cache.specs.Look.{agreeing}
 use Rattle.eval_cache.specs.Right.{evaluation_of, IsRight}
-use Rattle.ports_index.specs.Pairs.{Pair}
-use Rattle.ports_index.specs.Spent.{SpendsOnOne, evaluation_cost, no_spending}
-use Rattle.ports_index.specs.declared.spent.Spent.{Spent}
+use Rattle.port_index.specs.Pairs.{Pair}
+use Rattle.port_index.specs.Spent.{SpendsOnOne, evaluation_cost, no_spending}
+use Rattle.port_index.specs.declared.spent.Spent.{Spent}
 use Rattle.eval_ask.specs.declared.ask.Ask.{Ask}
 use Rattle.eval_ask.specs.declared.ask.Looked.{Looked}
 use Rattle.eval_ask.specs.declared.ask.Asked.{Asked}

@@ -15,7 +15,7 @@ use eval_cache::{EvalCache, EvalKey, Look};
 use mk_files::Files;
 use mk_paths::{FilesFault, Name, Settings};
 use mk_step::{Machine, Turned};
-use ports_index::Spent;
+use port_index::Spent;
 use read_trace::{Evaluation, Recorder, Trace, agrees_where_answered, same_where_agreed};
 use std::alloc::{AllocError, Global};
 use std::rc::Rc;

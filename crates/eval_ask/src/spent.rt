@@ -2,7 +2,7 @@
 ghost use Rattle.std.specs.Prelude.{◌≡◌, ◌+◌, ◌-◌};
 ghost use Rattle.eval_ask.specs.Ask.{IsUpFrom, spent_in_all};
 
-use ports_index::Spent;
+use port_index::Spent;
 
 /// What was spent in a turn, before which and after which so much was spent in all.
 pub fn spent_since(before: Spent, after: Spent) -> Spent

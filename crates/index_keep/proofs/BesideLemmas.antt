@@ -7,11 +7,11 @@ use Rattle.std.proofs.lemmas.Slice.Eq.{bytes_eq-Decides}
 use Rattle.std.specs.List.{filter}
 use Rattle.std.specs.Str.{bytes_eq}
 use Rattle.mk_paths.specs.World.{World}
-use Rattle.ports_index.specs.Dependencies.{targets_in}
-use Rattle.ports_index.specs.Efforts.{has_makefile}
-use Rattle.ports_index.specs.FilledRows.{is_one_of}
-use Rattle.ports_index.specs.PathOutcomes.{PathOutcome}
-use Rattle.ports_index.specs.RowLaws.{is_target_among}
+use Rattle.port_index.specs.Dependencies.{targets_in}
+use Rattle.port_index.specs.Efforts.{has_makefile}
+use Rattle.port_index.specs.FilledRows.{is_one_of}
+use Rattle.port_index.specs.PathOutcomes.{PathOutcome}
+use Rattle.port_index.specs.RowLaws.{is_target_among}
 use Rattle.index_keep.specs.Paths.{IsFoundOf}
 use Rattle.index_keep.specs.declared.path_ask.FoundPath.{FoundPath}
 use Rattle.index_keep.proofs.ListLemmas.{map-append}

@@ -6,10 +6,10 @@ use Rattle.std.specs.Prelude.{Vec}
 use Rattle.text_parts.specs.Ordered.{in_order-again}
 use Rattle.mk_paths.specs.World.{World, files_in}
 use Rattle.mk_paths.specs.declared.files.FilesFault.{FilesFault}
-use Rattle.ports_index.specs.FilledRows.{is_one_of}
-use Rattle.ports_index.specs.Index.{listed_paths, needed_paths}
-use Rattle.ports_index.specs.TreePaths.{AreInOrder, directories, named_at}
-use Rattle.ports_index.specs.PathOutcomes.{outcome_at}
+use Rattle.port_index.specs.FilledRows.{is_one_of}
+use Rattle.port_index.specs.Index.{listed_paths, needed_paths}
+use Rattle.port_index.specs.TreePaths.{AreInOrder, directories, named_at}
+use Rattle.port_index.specs.PathOutcomes.{outcome_at}
 use Rattle.index_store.specs.Entries.{Entries, StoredValue}
 use Rattle.index_keep.specs.Keeper.{IsAtEnd}
 use Rattle.index_keep.specs.Last.{HaveRowsAlone, LeavesFresh, is_fresh_of}
@@ -17,7 +17,7 @@ use Rattle.index_keep.specs.Shown.{ShownRow, ShownRows, fresh, no_name, show_sto
 use Rattle.index_keep.specs.Walk.{AreNeededBeside, HasOrder, row_stays}
 use Rattle.index_keep.specs.declared.walk.LastStage.{LastStage}
 use Rattle.index_keep.proofs.ShownLemmas.{entries-fresh}
-use Rattle.ports_index.proofs.MakefileLemmas.{same_by}
+use Rattle.port_index.proofs.MakefileLemmas.{same_by}
 use Rattle.index_keep.proofs.WalkLemmas.{decided-there, needed-has, there-fresh}
 
 and_false : (b : Bool) → (b && false) ≡ false

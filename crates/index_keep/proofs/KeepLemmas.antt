@@ -14,20 +14,20 @@ use Rattle.mk_paths.specs.World.{World, files_in}
 use Rattle.mk_paths.specs.FilesView.{Question, Reply, Presence, Contents, IsReply}
 use Rattle.mk_paths.specs.declared.search_path.Settings.{Settings}
 use Rattle.mk_eval.specs.Agreement.{Agrees}
-use Rattle.ports_index.specs.Efforts.{decided, has_makefile, is_there}
-use Rattle.ports_index.specs.declared.spent.Spent.{Spent}
-use Rattle.ports_index.specs.FilledRows.{is_one_of, Fills}
-use Rattle.ports_index.specs.Index.{needed_among, needed_paths}
-use Rattle.ports_index.specs.Known.{IsIndexOf}
-use Rattle.ports_index.specs.Makefiles.{AreThere, SameMakefiles, SameMakefilesServe, is_makefile}
-use Rattle.ports_index.specs.declared.known_index.KnownIndex.{KnownIndex}
-use Rattle.ports_index.specs.PathLaws.{PathIsTheSameWhereAnswered}
-use Rattle.ports_index.specs.PathOutcomes.{PathOutcome, Absent, Finding, finding_at, outcome_at}
-use Rattle.ports_index.specs.PathQuestions.{questions_at}
-use Rattle.ports_index.specs.RowLaws.{KnownRowsAreEnough, OneRowMoreLeavesLess}
-use Rattle.ports_index.specs.TreePaths.{listed_from}
-use Rattle.ports_index.specs.Seen.{entries_in, known_in}
-use Rattle.row_text.specs.Rows.{RowValue, row_of}
+use Rattle.port_index.specs.Efforts.{decided, has_makefile, is_there}
+use Rattle.port_index.specs.declared.spent.Spent.{Spent}
+use Rattle.port_index.specs.FilledRows.{is_one_of, Fills}
+use Rattle.port_index.specs.Index.{needed_among, needed_paths}
+use Rattle.port_index.specs.Known.{IsIndexOf}
+use Rattle.port_index.specs.Makefiles.{AreThere, SameMakefiles, SameMakefilesServe, is_makefile}
+use Rattle.port_index.specs.declared.known_index.KnownIndex.{KnownIndex}
+use Rattle.port_index.specs.PathLaws.{PathIsTheSameWhereAnswered}
+use Rattle.port_index.specs.PathOutcomes.{PathOutcome, Absent, Finding, finding_at, outcome_at}
+use Rattle.port_index.specs.PathQuestions.{questions_at}
+use Rattle.port_index.specs.RowLaws.{KnownRowsAreEnough, OneRowMoreLeavesLess}
+use Rattle.port_index.specs.TreePaths.{listed_from}
+use Rattle.port_index.specs.Seen.{entries_in, known_in}
+use Rattle.index_row.specs.Rows.{RowValue, row_of}
 use Rattle.index_store.specs.Entries.{StoredValue, Entries}
 use Rattle.index_keep.specs.declared.last_index.HeldIndex.{HeldIndex}
 use Rattle.index_keep.specs.declared.keeper.Progress.{Progress}
@@ -35,7 +35,7 @@ use Rattle.index_keep.specs.declared.keeper.Progress.TheVariants.{Changed, Walki
 use Rattle.index_keep.specs.Shown.{ShownRow, ShownRows, shown, show_row, show_stored, asked_one, no_name, fresh, fresh_outcome, said_in_row, stale_if_asked, ShowsSame}
 use Rattle.index_keep.specs.Last.{IsHeld, IsLast, SaysAll, Serves, needed_before}
 use Rattle.index_keep.specs.Right.{names_in, row_with, IsRightRow, AreKept, AreCurrent, HaveFresh, DifferAt, RenewsOneOf, fresh_row, is_evaluated}
-use Rattle.ports_index.specs.Spent.{no_spending}
+use Rattle.port_index.specs.Spent.{no_spending}
 use Rattle.index_keep.specs.Turns.{DropsTurn, paths_left, refresh_at}
 use Rattle.index_keep.specs.Keeper.{changed_in, begun_in, last_in, stays_there, DropsTo, IsKept, IsProgress, HasForgotten, Halts, Stops, TellsPresence}
 use Rattle.index_keep.specs.declared.keeper.Keeper.{Keeper}

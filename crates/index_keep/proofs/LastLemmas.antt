@@ -6,16 +6,16 @@ use Rattle.std.specs.Option.{option_or}
 use Rattle.std.specs.Prelude.{Vec}
 use Rattle.std.specs.Str.{bytes_eq}
 use Rattle.mk_paths.specs.World.{World}
-use Rattle.ports_index.specs.Alike.{AlikeRowsListTheSame, AreAlikeAt, NameAlike}
-use Rattle.ports_index.specs.Efforts.{has_makefile}
-use Rattle.ports_index.specs.FilledRows.{is_one_of}
-use Rattle.ports_index.specs.Index.{needed_among}
-use Rattle.ports_index.specs.TreePaths.{listed_from}
-use Rattle.ports_index.specs.PathOutcomes.{PathOutcome}
-use Rattle.ports_index.specs.Seen.{Said, entries_in, has_asked_for, known_in, known_row, names_said_in, said_in}
-use Rattle.ports_index.specs.declared.memory_rows.MemoryRows.{MemoryRows}
-use Rattle.ports_index.specs.declared.known_index.KnownIndex.{KnownIndex}
-use Rattle.row_text.specs.Rows.{RowValue, row_of}
+use Rattle.port_index.specs.Alike.{AlikeRowsListTheSame, AreAlikeAt, NameAlike}
+use Rattle.port_index.specs.Efforts.{has_makefile}
+use Rattle.port_index.specs.FilledRows.{is_one_of}
+use Rattle.port_index.specs.Index.{needed_among}
+use Rattle.port_index.specs.TreePaths.{listed_from}
+use Rattle.port_index.specs.PathOutcomes.{PathOutcome}
+use Rattle.port_index.specs.Seen.{Said, entries_in, has_asked_for, known_in, known_row, names_said_in, said_in}
+use Rattle.port_index.specs.declared.memory_rows.MemoryRows.{MemoryRows}
+use Rattle.port_index.specs.declared.known_index.KnownIndex.{KnownIndex}
+use Rattle.index_row.specs.Rows.{RowValue, row_of}
 use Rattle.index_store.specs.Entries.{StoredValue, Entries}
 use Rattle.index_keep.specs.Last.{IsLast, NamesAsBefore, Recalls, RecallsLists, Serves, led_to, listed_in, needed_before, needed_of, paths_in}
 use Rattle.index_keep.specs.declared.last_index.LastIndex.{LastIndex}

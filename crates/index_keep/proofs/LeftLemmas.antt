@@ -11,15 +11,15 @@ use Rattle.std.specs.Str.{bytes_eq}
 use Rattle.text_parts.specs.Order.{in_order}
 use Rattle.text_parts.specs.Ordered.{among-in_order}
 use Rattle.mk_paths.specs.World.{World}
-use Rattle.ports_index.specs.Efforts.{cost_over, decided, evaluations_at, evaluations_over, has_makefile, is_there}
-use Rattle.ports_index.specs.FilledRows.{is_one_of}
-use Rattle.ports_index.specs.Index.{needed_paths}
-use Rattle.ports_index.specs.Pairs.{Pair, pair_at}
-use Rattle.ports_index.specs.PathLaws.{MakefilesAreEvaluated}
-use Rattle.ports_index.specs.PathOutcomes.{Absent, cost_at, outcome_at}
-use Rattle.ports_index.specs.RowLaws.{OneRowMoreLeavesLess}
-use Rattle.ports_index.specs.Spent.{ChecksFew, evaluation_cost, evaluations_of}
-use Rattle.ports_index.specs.declared.spent.Spent.{Spent}
+use Rattle.port_index.specs.Efforts.{cost_over, decided, evaluations_at, evaluations_over, has_makefile, is_there}
+use Rattle.port_index.specs.FilledRows.{is_one_of}
+use Rattle.port_index.specs.Index.{needed_paths}
+use Rattle.port_index.specs.Pairs.{Pair, pair_at}
+use Rattle.port_index.specs.PathLaws.{MakefilesAreEvaluated}
+use Rattle.port_index.specs.PathOutcomes.{Absent, cost_at, outcome_at}
+use Rattle.port_index.specs.RowLaws.{OneRowMoreLeavesLess}
+use Rattle.port_index.specs.Spent.{ChecksFew, evaluation_cost, evaluations_of}
+use Rattle.port_index.specs.declared.spent.Spent.{Spent}
 use Rattle.eval_ask.specs.Ask.{EvaluatesInTime, IsShort, IsUpBy, spent_in}
 use Rattle.index_keep.specs.Paths.{IsPathAsk}
 use Rattle.index_keep.specs.Right.{fresh_row}

@@ -21,15 +21,15 @@ use Rattle.eval_cache.specs.Right.{evaluation_of}
 use Rattle.pkg_path.specs.Paths.{PathValue, path_if_one}
 use Rattle.read_trace.specs.Recorder.{with_trace}
 use Rattle.read_trace.specs.declared.evaluation.Evaluation.{Evaluation}
-use Rattle.ports_index.specs.Efforts.{evaluations_at, evaluations_for, has_makefile, is_there}
-use Rattle.ports_index.specs.NamedPaths.{finding-own, finding-named, finding-none, questions-own, questions-named}
-use Rattle.ports_index.specs.Pairs.{Pair, pair_in, pair_named, pair_at}
-use Rattle.ports_index.specs.PathOutcomes.{port_finding, list_finding, finding_by, Finding, finding_at, cost_at, finding_in, finding_named, finding_of, finding_of_evaluation, nothing_found, own_directory}
-use Rattle.ports_index.specs.PathQuestions.{questions_in, questions_after, questions_at}
-use Rattle.ports_index.specs.Spent.{SpendsOnOne, SpendsOn, evaluation_cost}
-use Rattle.ports_index.specs.declared.spent.Spent.{Spent}
-use Rattle.row_text.specs.Rows.{RowValue}
-use Rattle.row_text.specs.Seen.{kept_row_seen}
+use Rattle.port_index.specs.Efforts.{evaluations_at, evaluations_for, has_makefile, is_there}
+use Rattle.port_index.specs.NamedPaths.{finding-own, finding-named, finding-none, questions-own, questions-named}
+use Rattle.port_index.specs.Pairs.{Pair, pair_in, pair_named, pair_at}
+use Rattle.port_index.specs.PathOutcomes.{port_finding, list_finding, finding_by, Finding, finding_at, cost_at, finding_in, finding_named, finding_of, finding_of_evaluation, nothing_found, own_directory}
+use Rattle.port_index.specs.PathQuestions.{questions_in, questions_after, questions_at}
+use Rattle.port_index.specs.Spent.{SpendsOnOne, SpendsOn, evaluation_cost}
+use Rattle.port_index.specs.declared.spent.Spent.{Spent}
+use Rattle.index_row.specs.Rows.{RowValue}
+use Rattle.index_row.specs.Seen.{kept_row_seen}
 use Rattle.eval_ask.specs.Ask.{AsksOn, EvaluatesInTime, HasComeTo, HasLooked, IsAnswerTo, IsShort, IsUpBy, IsUpFrom, MakesInTime, spent_in, spent_less_saved, total_of}
 use Rattle.mk_base.specs.declared.budget.TheConstants.{UNITS}
 use Rattle.index_keep.specs.Paths.{directory_named, flavors_named, row_made, IsNamed, IsFoundAt, IsPathAsk, IsMade}

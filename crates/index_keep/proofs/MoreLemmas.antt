@@ -4,12 +4,12 @@ use Rattle.std.proofs.lemmas.Slice.Eq.{bytes_eq-Decides}
 use Rattle.std.specs.Prelude.{Vec}
 use Rattle.std.specs.Str.{bytes_eq}
 use Rattle.mk_paths.specs.World.{World}
-use Rattle.ports_index.specs.Alike.{AlikeRowsListTheSame}
-use Rattle.ports_index.specs.Efforts.{has_makefile}
-use Rattle.ports_index.specs.FilledRows.{is_one_of}
-use Rattle.ports_index.specs.Index.{needed_paths}
-use Rattle.ports_index.specs.PathOutcomes.{Absent}
-use Rattle.ports_index.specs.Seen.{Said}
+use Rattle.port_index.specs.Alike.{AlikeRowsListTheSame}
+use Rattle.port_index.specs.Efforts.{has_makefile}
+use Rattle.port_index.specs.FilledRows.{is_one_of}
+use Rattle.port_index.specs.Index.{needed_paths}
+use Rattle.port_index.specs.PathOutcomes.{Absent}
+use Rattle.port_index.specs.Seen.{Said}
 use Rattle.index_keep.specs.Last.{HaveRowsAlone, NamesAsBefore, Recalls, RecallsLists, listed_in}
 use Rattle.index_keep.specs.Right.{AreDecided}
 use Rattle.index_keep.specs.Shown.{ShownRows, fresh, fresh_said}

@@ -3,7 +3,7 @@ use Rattle.std.proofs.Common.{ℕ, List, Option, Some, None, String, Global}
 use Rattle.std.specs.Prelude.{Vec}
 use Rattle.std.proofs.Props.{props}
 use Rattle.mk_paths.specs.World.{World}
-use Rattle.row_text.specs.Rows.{RowValue}
+use Rattle.index_row.specs.Rows.{RowValue}
 use Rattle.index_store.specs.Entries.{Entries}
 use Rattle.eval_ask.proofs.Props.{Agrees-prop, HasComeTo-prop}
 use Rattle.index_keep.specs.declared.keeper.Progress.{Progress}

@@ -2,7 +2,7 @@
 use Rattle.std.proofs.Common.{◌≡◌, ◌∙◌, ap, refl, ℕ, Bool, true, false, if◌then◌else◌, List, [], ◌∷◌, Some, option_map, option_and_then}
 use Rattle.std.specs.List.{list_any}
 use Rattle.std.specs.Str.{bytes_eq}
-use Rattle.row_text.specs.Rows.{RowValue, row_of}
+use Rattle.index_row.specs.Rows.{RowValue, row_of}
 use Rattle.index_store.specs.Entries.{Entries, PutsRow}
 use Rattle.index_keep.specs.Shown.{ShownRow, shown, show_row, show_stored, no_name}
 

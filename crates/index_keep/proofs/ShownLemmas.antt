@@ -1,10 +1,10 @@
 -- What is shown of stored rows, and what is fresh of them.
 use Rattle.std.proofs.Common.{◌≡◌, ◌∙◌, sym, ap, refl, ℕ, Bool, true, false, ◌||◌, if◌then◌else◌, List, [], ◌∷◌, Option, Some, None, option_map, option_and_then}
 use Rattle.std.specs.List.{list_any}
-use Rattle.ports_index.specs.FilledRows.{is_one_of}
-use Rattle.ports_index.specs.Seen.{Said, entries_in, said_in}
-use Rattle.ports_index.specs.declared.memory_rows.MemoryRows.{MemoryRows}
-use Rattle.row_text.specs.Rows.{RowValue, row_of}
+use Rattle.port_index.specs.FilledRows.{is_one_of}
+use Rattle.port_index.specs.Seen.{Said, entries_in, said_in}
+use Rattle.port_index.specs.declared.memory_rows.MemoryRows.{MemoryRows}
+use Rattle.index_row.specs.Rows.{RowValue, row_of}
 use Rattle.index_store.specs.Entries as store
 use Rattle.index_store.specs.Entries.{StoredValue, Entries, MarksRowsOf}
 use Rattle.index_keep.specs.Shown.{ShownRow, ShownRows, shown, show_row, show_stored, asked_one, no_name, fresh, fresh_outcome, fresh_said, said_by, said_if_fresh, ShowsSame}

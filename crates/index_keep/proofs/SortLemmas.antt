@@ -3,8 +3,8 @@ use Rattle.std.proofs.Common.{◌≡◌, ◌∙◌, sym, ap, subst, refl, ℕ, B
 use Rattle.std.proofs.lemmas.Slice.Eq.{bytes_eq-Decides}
 use Rattle.std.specs.Option.{option_map_or}
 use Rattle.std.specs.Str.{bytes_eq}
-use Rattle.ports_index.specs.FilledRows.{is_one_of}
-use Rattle.ports_index.specs.Seen.{Said}
+use Rattle.port_index.specs.FilledRows.{is_one_of}
+use Rattle.port_index.specs.Seen.{Said}
 use Rattle.index_store.specs.Entries.{StoredValue, Entries, SeenRow, AreRowsOf, row_path, value_in, stored_seen}
 use Rattle.index_store.specs.declared.path_rows.StoredRow.{StoredRow}
 use Rattle.index_keep.specs.Judgement.{judge, said_of, is_outdated, fresh_at, outdated_at, known_with, known_by, outdated_in}

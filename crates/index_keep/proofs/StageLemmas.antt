@@ -5,10 +5,10 @@ use Rattle.std.specs.FinMap.{keys}
 use Rattle.std.specs.List.{filter_map, flat_map}
 use Rattle.text_parts.specs.Ordered.{in_order-again}
 use Rattle.mk_paths.specs.World.{FileMap, World}
-use Rattle.ports_index.specs.Efforts.{decided, has_makefile}
-use Rattle.ports_index.specs.FilledRows.{is_one_of}
-use Rattle.ports_index.specs.TreePaths.{AreInOrder, directories, listable_directory, listed_from, named_at}
-use Rattle.ports_index.specs.PathOutcomes.{PathOutcome}
+use Rattle.port_index.specs.Efforts.{decided, has_makefile}
+use Rattle.port_index.specs.FilledRows.{is_one_of}
+use Rattle.port_index.specs.TreePaths.{AreInOrder, directories, listable_directory, listed_from, named_at}
+use Rattle.port_index.specs.PathOutcomes.{PathOutcome}
 use Rattle.index_keep.specs.Shown.{ShownRows}
 use Rattle.index_keep.proofs.WalkLemmas.{decided-absent, decided-known}
 

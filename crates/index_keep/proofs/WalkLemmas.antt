@@ -8,21 +8,21 @@ use Rattle.std.specs.Str.{bytes_eq}
 use Rattle.text_parts.specs.Ordered.{among-in_order}
 use Rattle.mk_paths.specs.World.{World, files_in}
 use Rattle.port_deps.specs.ItemText.{has_comma}
-use Rattle.ports_index.specs.Alike.{AlikeRowsListTheSame, AreAlikeAt, NameAlike}
-use Rattle.ports_index.specs.Dependencies.{items_among, target_of, targets_in}
-use Rattle.ports_index.specs.Efforts.{decided, has_makefile, is_there}
-use Rattle.ports_index.specs.FilledRows.{is_one_of}
-use Rattle.ports_index.specs.Index.{listed_paths, needed_among, needed_paths}
-use Rattle.ports_index.specs.Makefiles.{AreOfDirectories}
-use Rattle.ports_index.specs.TreePaths.{directories, listed_from, named_at, named_in}
-use Rattle.ports_index.specs.Pairs.{pair_at}
-use Rattle.ports_index.specs.PathOutcomes.{PathOutcome, Absent, Faulty, Port, BadPort, Lists, BadList, FlavoredList, Other, cost_at, outcome_at}
-use Rattle.ports_index.specs.Spent.{SpendsOnPath, no_spending}
-use Rattle.ports_index.specs.declared.spent.Spent.{Spent}
-use Rattle.row_text.specs.Rows.{RowValue}
-use Rattle.ports_index.specs.RowLaws.{KnownRowsAreEnough, NeededAreNamed, SayAll, is_target_among}
-use Rattle.ports_index.specs.Seen.{Said, entries_in, known_in, known_row, said_in}
-use Rattle.ports_index.specs.declared.memory_rows.MemoryRows.{MemoryRows}
+use Rattle.port_index.specs.Alike.{AlikeRowsListTheSame, AreAlikeAt, NameAlike}
+use Rattle.port_index.specs.Dependencies.{items_among, target_of, targets_in}
+use Rattle.port_index.specs.Efforts.{decided, has_makefile, is_there}
+use Rattle.port_index.specs.FilledRows.{is_one_of}
+use Rattle.port_index.specs.Index.{listed_paths, needed_among, needed_paths}
+use Rattle.port_index.specs.Makefiles.{AreOfDirectories}
+use Rattle.port_index.specs.TreePaths.{directories, listed_from, named_at, named_in}
+use Rattle.port_index.specs.Pairs.{pair_at}
+use Rattle.port_index.specs.PathOutcomes.{PathOutcome, Absent, Faulty, Port, BadPort, Lists, BadList, FlavoredList, Other, cost_at, outcome_at}
+use Rattle.port_index.specs.Spent.{SpendsOnPath, no_spending}
+use Rattle.port_index.specs.declared.spent.Spent.{Spent}
+use Rattle.index_row.specs.Rows.{RowValue}
+use Rattle.port_index.specs.RowLaws.{KnownRowsAreEnough, NeededAreNamed, SayAll, is_target_among}
+use Rattle.port_index.specs.Seen.{Said, entries_in, known_in, known_row, said_in}
+use Rattle.port_index.specs.declared.memory_rows.MemoryRows.{MemoryRows}
 use Rattle.index_keep.specs.Beside.{AreBeside, is_there_at}
 use Rattle.index_keep.specs.Last.{HaveRowsAlone, LeavesFresh, Recalls, SaysAll, is_fresh_of, led_to, needed_of, paths_in}
 use Rattle.index_keep.specs.declared.path_ask.FoundPath.{FoundPath}
@@ -40,7 +40,7 @@ use Rattle.index_keep.specs.Turns.{Evaluates, refresh_at, spent_in_all}
 use Rattle.index_keep.specs.Walk.{AreNeededBeside, HasListed, HasPassed, HasRowMore, IsDirectoryStage, IsLacking, IsLastStage, IsListedStage, IsStage, LacksNone, LacksRow, ListsPaths, Says, listed_of, paths_of}
 use Rattle.index_keep.specs.declared.path_ask.MadeRow.{MadeRow}
 use Rattle.index_keep.specs.declared.walk.Walk.{Walk}
-use Rattle.row_text.specs.Seen.{kept_row_seen}
+use Rattle.index_row.specs.Seen.{kept_row_seen}
 use Rattle.std.specs.Option.{option_or}
 use Rattle.index_keep.proofs.MadeLemmas.{there-found}
 use Rattle.index_keep.proofs.ShownLemmas.{entries-fresh}

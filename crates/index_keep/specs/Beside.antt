@@ -2,12 +2,12 @@
 use Rattle.std.specs.Prelude.{◌≡◌, ◌&&◌, ◌||◌, ℕ, Bool, List, is_some}
 use Rattle.mk_paths.specs.World.{World}
 use Rattle.port_deps.specs.ItemText.{has_comma}
-use Rattle.ports_index.specs.Efforts.{has_makefile}
-use Rattle.ports_index.specs.FilledRows.{is_one_of}
-use Rattle.ports_index.specs.TreePaths.{AreInOrder}
-use Rattle.ports_index.specs.RowLaws.{is_target_among}
-use Rattle.ports_index.specs.Seen.{entries_in, known_in}
-use Rattle.ports_index.specs.declared.memory_rows.MemoryRows.{MemoryRows}
+use Rattle.port_index.specs.Efforts.{has_makefile}
+use Rattle.port_index.specs.FilledRows.{is_one_of}
+use Rattle.port_index.specs.TreePaths.{AreInOrder}
+use Rattle.port_index.specs.RowLaws.{is_target_among}
+use Rattle.port_index.specs.Seen.{entries_in, known_in}
+use Rattle.port_index.specs.declared.memory_rows.MemoryRows.{MemoryRows}
 
 -- a path has a row or a makefile
 abbrev pub is_there_at : World → MemoryRows → List ℕ → Bool

@@ -4,8 +4,8 @@ use Rattle.std.specs.Prelude.{Result, IfOk, OnOk}
 use Rattle.std.specs.Global.{Global}
 use Rattle.mk_paths.specs.World.{World}
 use Rattle.index_store.specs.Entries.{Entries}
-use Rattle.ports_index.specs.FilledRows.{is_one_of}
-use Rattle.ports_index.specs.Index.{needed_paths}
+use Rattle.port_index.specs.FilledRows.{is_one_of}
+use Rattle.port_index.specs.Index.{needed_paths}
 use Rattle.index_keep.specs.declared.staying_rows.StayingRows.{StayingRows}
 use Rattle.index_keep.specs.declared.walk.LastStage.{LastStage}
 use Rattle.index_keep.specs.Keeper.{IsAtEnd}

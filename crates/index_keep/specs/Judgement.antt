@@ -2,8 +2,8 @@
 use Rattle.std.specs.Prelude.{ℕ, if◌then◌else◌, Bool, true, false, List, [], ◌∷◌, Option, Some, None, option_and_then}
 use Rattle.std.specs.Option.{option_map_or}
 use Rattle.std.specs.Str.{bytes_eq}
-use Rattle.ports_index.specs.Seen.{Said, known_seen}
-use Rattle.row_text.specs.Rows.{RowValue, row_of}
+use Rattle.port_index.specs.Seen.{Said, known_seen}
+use Rattle.index_row.specs.Rows.{RowValue, row_of}
 use Rattle.index_store.specs.Entries.{StoredValue, SeenRow, Entries, value_in}
 use Rattle.index_keep.specs.Shown.{asked_one, said_by}
 use Rattle.index_keep.specs.declared.refresh_start.Judged.{Judged}

@@ -8,9 +8,9 @@ use Rattle.mk_paths.specs.FilesView.{FilesView}
 use Rattle.mk_paths.specs.declared.files.Names as names
 use Rattle.mk_paths.specs.declared.search_path.Settings.{Settings}
 use Rattle.read_trace.specs.declared.recorder.Recorder.{Recorder}
-use Rattle.ports_index.specs.Known.{ArePathsOf, IsIndexOf}
-use Rattle.ports_index.specs.Makefiles.{is_makefile}
-use Rattle.ports_index.specs.Seen.{size_of}
+use Rattle.port_index.specs.Known.{ArePathsOf, IsIndexOf}
+use Rattle.port_index.specs.Makefiles.{is_makefile}
+use Rattle.port_index.specs.Seen.{size_of}
 use Rattle.index_store.specs.Entries.{Entries}
 use Rattle.index_keep.specs.declared.keeper.Progress.{Progress}
 use Rattle.index_keep.specs.declared.keeper.Progress.TheVariants.{Changed, Walking, Asking, Current, AtHand}
@@ -20,8 +20,8 @@ use Rattle.index_keep.specs.declared.keeper.Refreshed.TheVariants.{Done}
 use Rattle.index_keep.specs.Shown.{ShownRows, ShowsSame, made_stale, no_name, shown, stale_if_asked}
 use Rattle.index_keep.specs.Last.{IsHeld, SaysAll}
 use Rattle.index_keep.specs.declared.last_index.HeldIndex.{HeldIndex}
-use Rattle.ports_index.specs.Spent.{no_spending}
-use Rattle.ports_index.specs.declared.spent.Spent.{Spent}
+use Rattle.port_index.specs.Spent.{no_spending}
+use Rattle.port_index.specs.declared.spent.Spent.{Spent}
 use Rattle.index_keep.specs.declared.path_ask.PathAsk.{PathAsk}
 use Rattle.index_keep.specs.declared.walk.LastStage.{LastStage}
 use Rattle.index_keep.specs.declared.walk.Walk.{Walk}

@@ -4,16 +4,16 @@ use Rattle.std.specs.Prelude.{◌≡◌, ◌&&◌, ℕ, Bool, true, false, if◌
 use Rattle.std.specs.Prelude.{string_bytes, String, Vec}
 use Rattle.std.specs.Option.{option_or}
 use Rattle.mk_paths.specs.World.{World, files_in}
-use Rattle.ports_index.specs.Alike.{NameAlike}
-use Rattle.ports_index.specs.Efforts.{has_makefile}
-use Rattle.ports_index.specs.FilledRows.{is_one_of}
-use Rattle.ports_index.specs.Index.{needed_among}
-use Rattle.ports_index.specs.Makefiles.{AreThere}
-use Rattle.ports_index.specs.TreePaths.{directories, listed_from}
-use Rattle.ports_index.specs.PathOutcomes.{PathOutcome}
-use Rattle.ports_index.specs.Seen.{entries_in, known_in, known_row, said_in}
-use Rattle.ports_index.specs.declared.memory_rows.MemoryRows.{MemoryRows}
-use Rattle.ports_index.specs.declared.known_index.KnownIndex.{KnownIndex}
+use Rattle.port_index.specs.Alike.{NameAlike}
+use Rattle.port_index.specs.Efforts.{has_makefile}
+use Rattle.port_index.specs.FilledRows.{is_one_of}
+use Rattle.port_index.specs.Index.{needed_among}
+use Rattle.port_index.specs.Makefiles.{AreThere}
+use Rattle.port_index.specs.TreePaths.{directories, listed_from}
+use Rattle.port_index.specs.PathOutcomes.{PathOutcome}
+use Rattle.port_index.specs.Seen.{entries_in, known_in, known_row, said_in}
+use Rattle.port_index.specs.declared.memory_rows.MemoryRows.{MemoryRows}
+use Rattle.port_index.specs.declared.known_index.KnownIndex.{KnownIndex}
 use Rattle.index_keep.specs.declared.last_index.HeldIndex.{HeldIndex}
 use Rattle.index_keep.specs.declared.last_index.LastIndex.{LastIndex}
 use Rattle.index_keep.specs.declared.last_index.LastLists.{LastLists}

@@ -10,10 +10,10 @@ use Rattle.mk_paths.specs.declared.files.Names as names
 use Rattle.mk_paths.specs.declared.search_path.Settings.{Settings}
 use Rattle.read_trace.specs.Recorder.{view_of}
 use Rattle.read_trace.specs.declared.recorder.Recorder.{Recorder}
-use Rattle.row_text.specs.Seen.{kept_row_seen}
-use Rattle.ports_index.specs.PathOutcomes.{cost_at}
-use Rattle.ports_index.specs.Spent.{no_spending}
-use Rattle.ports_index.specs.declared.spent.Spent.{Spent}
+use Rattle.index_row.specs.Seen.{kept_row_seen}
+use Rattle.port_index.specs.PathOutcomes.{cost_at}
+use Rattle.port_index.specs.Spent.{no_spending}
+use Rattle.port_index.specs.declared.spent.Spent.{Spent}
 use Rattle.eval_ask.specs.Ask.{spent_less_saved, total_of}
 use Rattle.eval_ask.specs.declared.ask.Asked.{Asked}
 use Rattle.index_keep.specs.declared.path_ask.FoundPath.{FoundPath}

@@ -6,14 +6,14 @@ use Rattle.mk_eval.specs.Meaning.{means}
 use Rattle.mk_eval.specs.Agreement.{Agrees, questions_of}
 use Rattle.eval_cache.specs.Keys.{key_for}
 use Rattle.pkg_path.specs.Paths.{path_if_one}
-use Rattle.ports_index.specs.Efforts.{has_makefile}
-use Rattle.ports_index.specs.Pairs.{Pair, pair_at}
-use Rattle.ports_index.specs.PathOutcomes.{cost_at, finding_at, finding_of_evaluation, own_directory}
-use Rattle.ports_index.specs.PathQuestions.{questions_at}
-use Rattle.ports_index.specs.Spent.{SpendsOnPath}
-use Rattle.ports_index.specs.declared.spent.Spent.{Spent}
-use Rattle.row_text.specs.Rows.{RowValue}
-use Rattle.row_text.specs.Seen.{kept_row_seen}
+use Rattle.port_index.specs.Efforts.{has_makefile}
+use Rattle.port_index.specs.Pairs.{Pair, pair_at}
+use Rattle.port_index.specs.PathOutcomes.{cost_at, finding_at, finding_of_evaluation, own_directory}
+use Rattle.port_index.specs.PathQuestions.{questions_at}
+use Rattle.port_index.specs.Spent.{SpendsOnPath}
+use Rattle.port_index.specs.declared.spent.Spent.{Spent}
+use Rattle.index_row.specs.Rows.{RowValue}
+use Rattle.index_row.specs.Seen.{kept_row_seen}
 use Rattle.eval_ask.specs.Ask.{EvaluatesInTime, HasComeTo, IsShort, IsUpBy, IsUpFrom, MakesInTime, spent_in}
 use Rattle.index_keep.specs.Right.{IsRightRow, row_with}
 use Rattle.eval_ask.specs.declared.ask.Asked.{Asked}

@@ -9,17 +9,17 @@ use Rattle.mk_paths.specs.declared.files.FilesFault.{FilesFault}
 use Rattle.mk_paths.specs.declared.files.Names as names
 use Rattle.mk_paths.specs.declared.search_path.Settings.{Settings}
 use Rattle.mk_eval.specs.Agreement.{Agrees}
-use Rattle.ports_index.specs.Efforts.{decided, has_makefile, is_there}
-use Rattle.ports_index.specs.FilledRows.{is_one_of}
-use Rattle.ports_index.specs.Index.{needed_paths}
-use Rattle.ports_index.specs.KeptFiles.{KeepsFiles}
-use Rattle.ports_index.specs.PathOutcomes.{Finding, PathOutcome, finding_at}
-use Rattle.ports_index.specs.PathQuestions.{questions_at}
-use Rattle.ports_index.specs.Spent.{SpendsOnPath}
-use Rattle.ports_index.specs.declared.spent.Spent.{Spent}
+use Rattle.port_index.specs.Efforts.{decided, has_makefile, is_there}
+use Rattle.port_index.specs.FilledRows.{is_one_of}
+use Rattle.port_index.specs.Index.{needed_paths}
+use Rattle.port_index.specs.KeptFiles.{KeepsFiles}
+use Rattle.port_index.specs.PathOutcomes.{Finding, PathOutcome, finding_at}
+use Rattle.port_index.specs.PathQuestions.{questions_at}
+use Rattle.port_index.specs.Spent.{SpendsOnPath}
+use Rattle.port_index.specs.declared.spent.Spent.{Spent}
 use Rattle.read_trace.specs.Recorder.{view_of}
 use Rattle.read_trace.specs.declared.recorder.Recorder.{Recorder}
-use Rattle.row_text.specs.Rows.{RowValue}
+use Rattle.index_row.specs.Rows.{RowValue}
 use Rattle.index_keep.specs.Shown.{ShownRow, ShownRows, fresh}
 
 -- the names that questions are about

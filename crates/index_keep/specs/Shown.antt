@@ -5,9 +5,9 @@ use Rattle.std.specs.BTreeSet.{BTreeSet, contains_text}
 use Rattle.std.specs.Global.{Global}
 use Rattle.std.specs.List.{list_any}
 use Rattle.std.specs.Str.{bytes_eq}
-use Rattle.ports_index.specs.PathOutcomes.{PathOutcome}
-use Rattle.ports_index.specs.Seen.{Said}
-use Rattle.row_text.specs.Rows.{RowValue, row_of}
+use Rattle.port_index.specs.PathOutcomes.{PathOutcome}
+use Rattle.port_index.specs.Seen.{Said}
+use Rattle.index_row.specs.Rows.{RowValue, row_of}
 use Rattle.index_store.specs.Entries.{StoredValue, Entries}
 
 pub record ShownRow : Type 0 where

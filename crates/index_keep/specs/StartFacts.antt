@@ -5,13 +5,13 @@ use Rattle.std.specs.Global.{Global}
 use Rattle.mk_paths.specs.World.{World}
 use Rattle.index_store.specs.Entries.{AreStored, Entries, stored_seen, value_in}
 use Rattle.index_store.specs.declared.path_rows.StoredRow.{StoredRow}
-use Rattle.ports_index.specs.FilledRows.{is_one_of}
-use Rattle.ports_index.specs.Seen.{HaveAsked, row_seen, said_in}
-use Rattle.ports_index.specs.declared.path_outcomes.Row.{Row}
-use Rattle.ports_index.specs.declared.memory_rows.MemoryRows.{MemoryRows}
-use Rattle.ports_index.specs.declared.known_index.KnownIndex.{KnownIndex}
-use Rattle.row_text.specs.Seen as texts
-use Rattle.row_text.specs.declared.rows.KeptRow.{KeptRow}
+use Rattle.port_index.specs.FilledRows.{is_one_of}
+use Rattle.port_index.specs.Seen.{HaveAsked, row_seen, said_in}
+use Rattle.port_index.specs.declared.path_outcomes.Row.{Row}
+use Rattle.port_index.specs.declared.memory_rows.MemoryRows.{MemoryRows}
+use Rattle.port_index.specs.declared.known_index.KnownIndex.{KnownIndex}
+use Rattle.index_row.specs.Seen as texts
+use Rattle.index_row.specs.declared.rows.KeptRow.{KeptRow}
 use Rattle.index_keep.specs.declared.refresh_start.Begun.{Begun}
 use Rattle.index_keep.specs.declared.refresh_start.Judged.{Judged}
 use Rattle.index_keep.specs.declared.refresh_start.Sorted.{Sorted}

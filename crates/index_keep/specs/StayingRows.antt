@@ -1,6 +1,6 @@
 -- What finds out which rows stay at the end of a walk.
 use Rattle.std.specs.Prelude.{ℕ, List, map, string_bytes}
-use Rattle.ports_index.specs.Finders.{FindsPaths, IsFinderOf}
+use Rattle.port_index.specs.Finders.{FindsPaths, IsFinderOf}
 use Rattle.index_keep.specs.declared.staying_rows.StayingRows.{StayingRows}
 use Rattle.index_keep.specs.declared.walk.LastStage.{LastStage}
 

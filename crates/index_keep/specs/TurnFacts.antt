@@ -10,11 +10,11 @@ use Rattle.mk_paths.specs.declared.files.Names as names
 use Rattle.mk_paths.specs.declared.search_path.Settings.{Settings}
 use Rattle.read_trace.specs.declared.recorder.Recorder.{Recorder}
 use Rattle.index_store.specs.Entries.{Entries, SameRows}
-use Rattle.row_text.specs.Seen.{kept_row_seen}
-use Rattle.row_text.specs.declared.rows.KeptRow.{KeptRow}
-use Rattle.ports_index.specs.Spent.{no_spending}
-use Rattle.ports_index.specs.declared.known_index.IndexPaths.{IndexPaths}
-use Rattle.ports_index.specs.declared.spent.Spent.{Spent}
+use Rattle.index_row.specs.Seen.{kept_row_seen}
+use Rattle.index_row.specs.declared.rows.KeptRow.{KeptRow}
+use Rattle.port_index.specs.Spent.{no_spending}
+use Rattle.port_index.specs.declared.known_index.IndexPaths.{IndexPaths}
+use Rattle.port_index.specs.declared.spent.Spent.{Spent}
 use Rattle.eval_ask.specs.Ask.{spent_in}
 use Rattle.index_keep.specs.declared.path_ask.PathTurned.{PathTurned}
 use Rattle.index_keep.specs.declared.keeper.Keeper.{Keeper}

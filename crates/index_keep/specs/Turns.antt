@@ -4,13 +4,13 @@ use Rattle.std.specs.List.{sum_by}
 use Rattle.mk_base.specs.declared.budget.TheConstants.{UNITS}
 use Rattle.turn_amounts.specs.declared.TheConstants.{MOST_CHECKS}
 use Rattle.mk_paths.specs.World.{World}
-use Rattle.ports_index.specs.Efforts.{cost_over, decided, evaluations_over, lacking}
-use Rattle.ports_index.specs.FilledRows.{is_one_of}
-use Rattle.ports_index.specs.Index.{needed_paths}
-use Rattle.ports_index.specs.Pairs.{pair_at}
-use Rattle.ports_index.specs.PathOutcomes.{cost_at}
-use Rattle.ports_index.specs.Spent.{ChecksFew, no_spending}
-use Rattle.ports_index.specs.declared.spent.Spent.{Spent}
+use Rattle.port_index.specs.Efforts.{cost_over, decided, evaluations_over, lacking}
+use Rattle.port_index.specs.FilledRows.{is_one_of}
+use Rattle.port_index.specs.Index.{needed_paths}
+use Rattle.port_index.specs.Pairs.{pair_at}
+use Rattle.port_index.specs.PathOutcomes.{cost_at}
+use Rattle.port_index.specs.Spent.{ChecksFew, no_spending}
+use Rattle.port_index.specs.declared.spent.Spent.{Spent}
 use Rattle.index_keep.specs.declared.keeper.Refreshed.{Refreshed}
 use Rattle.index_keep.specs.declared.keeper.Refreshed.TheVariants.{Evaluated, More, Done}
 pub use Rattle.eval_ask.specs.Ask.{spent_in_all}

@@ -4,12 +4,12 @@ use Rattle.std.specs.Prelude.{◌≡◌, ℕ, ◌||◌, ◌&&◌, Bool, true, fa
 use Rattle.std.specs.Prelude.{Option, Some, None, is_some, IfSome}
 use Rattle.std.specs.Str.{bytes_eq}
 use Rattle.mk_paths.specs.World.{World, files_in}
-use Rattle.ports_index.specs.Efforts.{decided, has_makefile}
-use Rattle.ports_index.specs.FilledRows.{is_one_of}
-use Rattle.ports_index.specs.Index.{listed_paths, needed_paths}
-use Rattle.ports_index.specs.TreePaths.{AreInOrder, directories, listed_from}
-use Rattle.ports_index.specs.Seen.{Said, entries_in, known_in, said_in}
-use Rattle.ports_index.specs.declared.memory_rows.MemoryRows.{MemoryRows}
+use Rattle.port_index.specs.Efforts.{decided, has_makefile}
+use Rattle.port_index.specs.FilledRows.{is_one_of}
+use Rattle.port_index.specs.Index.{listed_paths, needed_paths}
+use Rattle.port_index.specs.TreePaths.{AreInOrder, directories, listed_from}
+use Rattle.port_index.specs.Seen.{Said, entries_in, known_in, said_in}
+use Rattle.port_index.specs.declared.memory_rows.MemoryRows.{MemoryRows}
 use Rattle.index_keep.specs.declared.refresh_start.Begun.{Begun}
 use Rattle.index_keep.specs.declared.stage.Stage.{Stage}
 use Rattle.index_keep.specs.declared.walk.DirectoryStage.{DirectoryStage}

@@ -6,11 +6,11 @@ use Rattle.mk_paths.specs.World.{FileMap, World, files_in}
 use Rattle.mk_paths.specs.declared.files.Names as names
 use Rattle.mk_paths.specs.declared.search_path.Settings.{Settings}
 use Rattle.read_trace.specs.declared.recorder.Recorder.{Recorder}
-use Rattle.ports_index.specs.FilledRows.{is_one_of}
-use Rattle.ports_index.specs.TreePaths.{AreInOrder, directories}
-use Rattle.ports_index.specs.Seen.{Said, entries_in, known_seen}
-use Rattle.ports_index.specs.declared.memory_rows.MemoryRows.{MemoryRows}
-use Rattle.ports_index.specs.declared.noted_rows.KnownRow.{KnownRow}
+use Rattle.port_index.specs.FilledRows.{is_one_of}
+use Rattle.port_index.specs.TreePaths.{AreInOrder, directories}
+use Rattle.port_index.specs.Seen.{Said, entries_in, known_seen}
+use Rattle.port_index.specs.declared.memory_rows.MemoryRows.{MemoryRows}
+use Rattle.port_index.specs.declared.noted_rows.KnownRow.{KnownRow}
 use Rattle.index_keep.specs.declared.refresh_start.Begun.{Begun}
 use Rattle.index_keep.specs.declared.path_ask.FoundPath.{FoundPath}
 use Rattle.index_keep.specs.declared.stage.Stage.{Stage}

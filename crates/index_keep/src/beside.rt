@@ -5,7 +5,7 @@ ghost use Rattle.index_keep.specs.WalkFacts.{AddsThere, FindsBeside, TellsThere}
 use crate::path_ask::FoundPath;
 use mk_files::Files;
 use mk_paths::{FilesFault, Settings};
-use ports_index::{MemoryRows, flavored_targets};
+use port_index::{MemoryRows, flavored_targets};
 use read_trace::Recorder;
 use std::alloc::Global;
 use text_parts::put_in_order;

@@ -1,8 +1,8 @@
 //! The keeper of one tenant's index.
 ghost use Rattle.std.specs.Prelude.{◌≡◌, ℕ, List, OnOk, OnErr};
 ghost use Rattle.mk_paths.specs.World.{World};
-ghost use Rattle.ports_index.specs.Known.{IsIndexOf};
-ghost use Rattle.ports_index.specs.Spent.{no_spending};
+ghost use Rattle.port_index.specs.Known.{IsIndexOf};
+ghost use Rattle.port_index.specs.Spent.{no_spending};
 ghost use Rattle.index_store.specs.Entries.{KeepsProfiles};
 ghost use Rattle.index_keep.specs.Profiles.{profiles_of};
 ghost use Rattle.index_keep.specs.Keeper.{begun_in, last_in, refresh_of, size_at_hand, Halts};
@@ -18,7 +18,7 @@ use crate::refresh_start::begin;
 use crate::walk::Walk;
 use index_store::PathRows;
 use mk_paths::{FilesFault, Name};
-use ports_index::{
+use port_index::{
     IndexPaths, KnownIndex, Spent, insert_text, is_makefile, known_rows_are_enough,
     path_is_the_same_where_answered, same_makefiles_serve,
 };

@@ -1,10 +1,10 @@
 //! The index before files changed, whose lists are kept while no row names other paths.
 ghost use Rattle.std.specs.Prelude.{◌≡◌, true, IfSome};
-ghost use Rattle.ports_index.specs.Seen.{row_seen};
+ghost use Rattle.port_index.specs.Seen.{row_seen};
 ghost use Rattle.index_keep.specs.Last.{NamesAsBefore};
 ghost use Rattle.index_keep.specs.StartFacts.{KeepsIfAlike, KeepsListsIfAlike};
 
-use ports_index::{KnownIndex, MemoryRows, Row, name_alike};
+use port_index::{KnownIndex, MemoryRows, Row, name_alike};
 
 /// The index that was at hand before files changed.
 #[derive(Drop)]

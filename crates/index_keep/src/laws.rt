@@ -2,7 +2,7 @@
 ghost use Rattle.index_keep.specs.Turns.{RefreshingPays};
 
 use mk_eval::evaluations_cost_few;
-use ports_index::{makefiles_are_evaluated, one_row_more_leaves_less};
+use port_index::{makefiles_are_evaluated, one_row_more_leaves_less};
 
 /// If a row is renewed, then less is left to be done, by at least what was spent on it. If the rows are those of the
 /// index, nothing is left. What a turn takes off the units that are left is spent in it, unless evaluations were kept.

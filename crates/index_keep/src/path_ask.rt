@@ -2,9 +2,9 @@
 ghost use Rattle.std.specs.Prelude.{◌≡◌, map, string_bytes, IfOk, OnOk};
 ghost use Rattle.mk_eval.specs.Agreement.{Agrees};
 ghost use Rattle.eval_cache.specs.CacheUse.{UsesCache};
-ghost use Rattle.ports_index.specs.Spent.{no_spending};
+ghost use Rattle.port_index.specs.Spent.{no_spending};
 ghost use Rattle.read_trace.specs.Recorder.{view_of};
-ghost use Rattle.row_text.specs.Seen.{kept_row_seen};
+ghost use Rattle.index_row.specs.Seen.{kept_row_seen};
 ghost use Rattle.eval_ask.specs.Ask.{HasBegun, HasLooked, IsUpFrom, spent_in};
 ghost use Rattle.index_keep.specs.Paths as paths;
 ghost use Rattle.index_keep.specs.Paths.{IsNamed, IsUpTo};
@@ -20,9 +20,9 @@ use mk_files::Files;
 use mk_paths::{FilesFault, Name, Settings, find};
 use pkg_path::PkgPath;
 use port_rules::records_cost_few;
-use ports_index::{Spent, finding_of};
+use port_index::{Spent, finding_of};
 use read_trace::{Question, Recorder, Trace};
-use row_text::KeptRow;
+use index_row::KeptRow;
 use std::alloc::{AllocError, Global};
 
 /// The row of a path, and what was spent to make it.

@@ -1,8 +1,8 @@
 //! What a refresh begins with: the rows that are fresh.
 ghost use Rattle.std.specs.Prelude.{◌≡◌, IfOk, OnOk, OnErr};
-ghost use Rattle.ports_index.specs.Seen.{known_seen};
+ghost use Rattle.port_index.specs.Seen.{known_seen};
 ghost use Rattle.index_store.specs.Entries.{SameRows, SameProfiles};
-ghost use Rattle.row_text.specs.Seen.{kept_row_seen};
+ghost use Rattle.index_row.specs.Seen.{kept_row_seen};
 ghost use Rattle.index_keep.specs.Shown.{MarksAsking, said_by, shown_after, shown_in};
 ghost use Rattle.index_keep.specs.StartFacts.{AddsFresh, AddsOutdated, HasOutdated, IsJudgedAs};
 ghost use Rattle.index_keep.specs.StartFacts.{IsJudgedRow, KnowsFresh, LeavesOut, RecallsLast};
@@ -12,8 +12,8 @@ ghost use Rattle.index_keep.specs.Walk.{Says};
 use crate::last_index::{LastIndex, LastLists};
 use index_store::{PathRows, StoredRow};
 use mk_paths::FilesFault;
-use ports_index::{IndexPaths, KnownIndex, KnownRow, MemoryRows, is_one_among};
-use row_text::{KeptRow, read_row};
+use port_index::{IndexPaths, KnownIndex, KnownRow, MemoryRows, is_one_among};
+use index_row::{KeptRow, read_row};
 use std::alloc::{AllocError, Global};
 use std::collections::BTreeSet;
 

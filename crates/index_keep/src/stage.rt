@@ -7,7 +7,7 @@ ghost use Rattle.index_keep.specs.WalkFacts.{PassesOn};
 use crate::path_ask::FoundPath;
 use mk_files::Files;
 use mk_paths::{FilesFault, Settings};
-use ports_index::{KnownRow, MemoryRows, is_found_in};
+use port_index::{KnownRow, MemoryRows, is_found_in};
 use read_trace::Recorder;
 use std::alloc::{AllocError, Global};
 

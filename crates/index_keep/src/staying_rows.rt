@@ -9,7 +9,7 @@ ghost use Rattle.index_keep.specs.StayingRows.{FindsStaying};
 use crate::walk::LastStage;
 use index_store::PathRows;
 use mk_paths::FilesFault;
-use ports_index::{PathFinder, RowFinder};
+use port_index::{PathFinder, RowFinder};
 use std::alloc::{AllocError, Global};
 
 /// Takes out all rows but the fresh ones of needed paths, at the end of a walk, and gives the paths of the rows that it took

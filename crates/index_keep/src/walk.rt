@@ -1,6 +1,6 @@
 //! A refresh: the paths on which the index depends, one after another, until each has its row.
 ghost use Rattle.std.specs.Prelude.{string_bytes, OnOk, OnErr};
-ghost use Rattle.ports_index.specs.Seen.{known_seen};
+ghost use Rattle.port_index.specs.Seen.{known_seen};
 ghost use Rattle.read_trace.specs.Recorder.{view_of};
 ghost use Rattle.index_store.specs.Entries.{SameRows, SameProfiles};
 ghost use Rattle.index_keep.specs.Right.{LeavesAskedFiles};
@@ -18,7 +18,7 @@ use crate::stage::{Stage, found_among, lacking_among};
 use index_store::PathRows;
 use mk_files::{Files, Listing};
 use mk_paths::{FilesFault, Settings};
-use ports_index::{
+use port_index::{
     KnownRow, alike_rows_list_the_same, directories, known_rows_are_enough, listed,
     makefiles_are_of_directories, makefiles_are_there, needed_are_named,
 };

@@ -21,11 +21,11 @@ use Rattle.sqlite_rules.proofs.ListLemmas.{all_from, some_from, some_has}
 use Rattle.sqlite_rules.proofs.ProbeLemmas.{has_mapped, mapped_has}
 use Rattle.sqlite.specs.declared.error.Error.{Error}
 use Rattle.sqlite.specs.State.{State, Shown, FailsToQuery}
-use Rattle.table_facts.specs.Filled.{entry_row}
-use Rattle.table_facts.specs.States.{Stays}
-use Rattle.table_facts.proofs.Ending.{if_ok_then}
-use Rattle.table_facts.proofs.Keyed.{ShowsEntries, row_found, selects}
-use Rattle.table_facts.proofs.Statements.{seen as columns}
+use Rattle.sql_facts.specs.Filled.{entry_row}
+use Rattle.sql_facts.specs.States.{Stays}
+use Rattle.sql_facts.proofs.Ending.{if_ok_then}
+use Rattle.sql_facts.proofs.Keyed.{ShowsEntries, row_found, selects}
+use Rattle.sql_facts.proofs.Statements.{seen as columns}
 use Rattle.index_store.specs.declared.port_table.Part.{Part}
 use Rattle.index_store.specs.declared.port_table.Part.TheVariants.{Earlier, Current}
 use Rattle.index_store.specs.Entries.{StoredValue, SeenRow, AreRowsOf, is_one_of, row_path, value_in}

@@ -9,9 +9,9 @@ use Rattle.sqlite_value.specs.Order.{Row}
 use Rattle.sqlite_sql.specs.Term.{lit, col}
 use Rattle.sqlite.specs.State.{State, ExecutesInside}
 use Rattle.sqlite_rules.specs.Cast.{cast_row}
-use Rattle.table_facts.specs.Filled.{AreFilled, entry_row, entries_of_rows, changed_at}
-use Rattle.table_facts.proofs.Keyed.{Makes, cast_null, cast_integer, row_found, inserts_entry, updates_entries, updates_at, deletes_entries}
-use Rattle.table_facts.proofs.Statements.{seen}
+use Rattle.sql_facts.specs.Filled.{AreFilled, entry_row, entries_of_rows, changed_at}
+use Rattle.sql_facts.proofs.Keyed.{Makes, cast_null, cast_integer, row_found, inserts_entry, updates_entries, updates_at, deletes_entries}
+use Rattle.sql_facts.proofs.Statements.{seen}
 use Rattle.index_store.specs.declared.port_table.Part.{Part}
 use Rattle.index_store.specs.declared.port_table.Part.TheVariants.{Earlier, Current}
 use Rattle.index_store.specs.PortTable.{Entry, Rows, ByPath, IsFormed, HoldsInside, layout, rows_at, with_rows, tree_number, port_schema}

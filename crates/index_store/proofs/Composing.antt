@@ -9,8 +9,8 @@ use Rattle.std.proofs.lemmas.List.{take_more, map-append}
 use Rattle.std.proofs.lemmas.List.Folds.{list_any-append}
 use Rattle.std.proofs.lemmas.Slice.Eq.{bytes_eq-Decides}
 use Rattle.sqlite.specs.State.{State}
-use Rattle.table_facts.specs.Filled.{changed_at}
-use Rattle.table_facts.proofs.Keyed.{cond_same}
+use Rattle.sql_facts.specs.Filled.{changed_at}
+use Rattle.sql_facts.proofs.Keyed.{cond_same}
 use Rattle.index_store.specs.Entries.{is_one_of}
 use Rattle.index_store.specs.declared.port_table.Part.TheVariants.{Earlier, Current}
 use Rattle.index_store.specs.PortTable.{Entry, Rows, ByPath, HoldsInside, no_rows, with_rows, with_mark, marked_at, marked_among}

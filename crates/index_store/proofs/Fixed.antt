@@ -12,11 +12,11 @@ use Rattle.sqlite_schema.specs.declared.schema.Table.{Table}
 use Rattle.sqlite_tied.specs.Compute.{everything}
 use Rattle.sqlite.specs.Listing.{understood}
 use Rattle.sqlite.specs.State.{State}
-use Rattle.table_facts.specs.Tables.{no_schema}
-use Rattle.table_facts.proofs.Creating.{Defines}
-use Rattle.table_facts.proofs.Keyed.{IsMapAt, Tests, of_key}
-use Rattle.table_facts.proofs.Statements.{IsTableAt, Says, Queries, those_of}
-use Rattle.table_facts.proofs.Tests.{same_number, alone}
+use Rattle.sql_facts.specs.Tables.{no_schema}
+use Rattle.sql_facts.proofs.Creating.{Defines}
+use Rattle.sql_facts.proofs.Keyed.{IsMapAt, Tests, of_key}
+use Rattle.sql_facts.proofs.Statements.{IsTableAt, Says, Queries, those_of}
+use Rattle.sql_facts.proofs.Tests.{same_number, alone}
 use Rattle.index_store.specs.declared.port_table.Part.{Part}
 use Rattle.index_store.specs.declared.port_table.Part.TheVariants.{Earlier, Current}
 use Rattle.index_store.specs.PortTable.{IsFormed, earlier_schema, port_schema, earlier_table, current_table, tree_number, layout, leaving_mark}

@@ -3,10 +3,10 @@ use Rattle.std.proofs.Common.{◌≡◌, ℕ, Bool, false, [], Result, Ok, Err, 
 use Rattle.sqlite.specs.Effect.{Database}
 use Rattle.sqlite.specs.State.{State, Executes}
 use Rattle.sqlite.specs.declared.error.Error.{Error}
-use Rattle.table_facts.specs.Filled.{AreFilled, entries_of_rows}
-use Rattle.table_facts.specs.States.{IsSettled, Stays}
-use Rattle.table_facts.proofs.Creating.{creates}
-use Rattle.table_facts.proofs.Keyed.{none_filled}
+use Rattle.sql_facts.specs.Filled.{AreFilled, entries_of_rows}
+use Rattle.sql_facts.specs.States.{IsSettled, Stays}
+use Rattle.sql_facts.proofs.Creating.{creates}
+use Rattle.sql_facts.proofs.Keyed.{none_filled}
 use Rattle.index_store.specs.declared.port_table.Part.TheVariants.{Earlier, Current}
 use Rattle.index_store.specs.declared.change.Change.{Change}
 use Rattle.index_store.specs.PortTable.{Rows, ByPath, AreSettled, AllowsFor, IsKeptWith, IsFormed, Holds, HoldsInside}

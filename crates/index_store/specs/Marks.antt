@@ -6,7 +6,7 @@ use Rattle.mk_text.specs.declared.profile.Profile.{Profile}
 use Rattle.mk_text.specs.Profiles.{profile_number}
 use Rattle.sqlite.specs.Held.{Held}
 use Rattle.sqlite_trees.specs.declared.memory.MemStore.{MemStore}
-use Rattle.table_facts.specs.States.{state_of}
+use Rattle.sql_facts.specs.States.{state_of}
 use Rattle.index_store.specs.declared.port_table.Part.{Part}
 use Rattle.index_store.specs.declared.port_table.Mark.{Mark}
 use Rattle.index_store.specs.declared.port_table.Mark.TheVariants.{Stale, Leaving}

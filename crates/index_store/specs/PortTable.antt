@@ -24,9 +24,9 @@ use Rattle.sqlite.specs.Change.{created}
 use Rattle.sqlite.specs.Effect.{Database}
 use Rattle.sqlite.specs.Held.{Held}
 use Rattle.sqlite.specs.State.{State}
-use Rattle.table_facts.specs.Tables.{filled, keyed, no_schema}
-use Rattle.table_facts.specs.Filled.{Layout, AreFilled, entries_of_rows, changed_at, number_in, bytes_in}
-use Rattle.table_facts.specs.States.{IsSettled, state_of}
+use Rattle.sql_facts.specs.Tables.{filled, keyed, no_schema}
+use Rattle.sql_facts.specs.Filled.{Layout, AreFilled, entries_of_rows, changed_at, number_in, bytes_in}
+use Rattle.sql_facts.specs.States.{IsSettled, state_of}
 use Rattle.index_store.specs.Entries.{StoredValue, SeenRow, Entries, Profiles, AreRowsOf, PutsRow, PutsProfile}
 use Rattle.index_store.specs.Entries.{is_one_of, stored_seen}
 use Rattle.index_store.specs.declared.path_rows.StoredRow.{StoredRow}

@@ -1,7 +1,7 @@
 // The calls that write, each in one transaction. With `has_earlier` the table of the release before may have a
 // row; without it that table has none, and no statement runs on it.
 ghost use Rattle.std.specs.Prelude.{◌≡◌, OnOk, OnErr, IfOk, None, true};
-ghost use Rattle.table_facts.specs.States.{IsOpen, KeepsCommit, Stays, state_of};
+ghost use Rattle.sql_facts.specs.States.{IsOpen, KeepsCommit, Stays, state_of};
 ghost use Rattle.index_store.specs.PortTable.{IsKeptWith, AllowsFor, IsFormed, Holds};
 ghost use Rattle.index_store.specs.PortTable.{rows_of, entries_of, no_rows, staying_of, without};
 ghost use Rattle.index_store.specs.Marks.{Alters, AltersBoth, Makes, PutsEarlier, WritesCurrent, Stores};

@@ -1,7 +1,7 @@
 // The statements on the two tables of the rows.
 ghost use Rattle.std.specs.Prelude.{◌≡◌, [], None, IfOk, OnOk, false};
-ghost use Rattle.table_facts.specs.Tables.{no_schema};
-ghost use Rattle.table_facts.specs.States.{IsOpen, KeepsCommit, Stays, state_of};
+ghost use Rattle.sql_facts.specs.Tables.{no_schema};
+ghost use Rattle.sql_facts.specs.States.{IsOpen, KeepsCommit, Stays, state_of};
 ghost use Rattle.index_store.specs.PortTable.{IsTableAtRest, IsFormed, Holds, AreShown, rows_of, stored_of, no_rows};
 ghost use Rattle.index_store.specs.PortTable.{all_marked, staying_of, earlier_schema};
 ghost use Rattle.index_store.specs.PortTable.{select_rows, mark_row, mark_rows, delete_rows};
@@ -10,7 +10,7 @@ ghost use Rattle.index_store.specs.Marks.{SaysHasRow, MarksRow, mark_number};
 
 use mk_text::Profile;
 use sqlite::{Connection, Error, MemStore, Row, Transaction, params};
-use table_facts::run;
+use sql_facts::run;
 
 /// One of the two tables.
 #[derive(Clone, Copy, Debug)]

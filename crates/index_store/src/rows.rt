@@ -1,6 +1,6 @@
 // Reading what the statements show.
 ghost use Rattle.std.specs.Prelude.{◌≡◌, IfOk, OnOk};
-ghost use Rattle.table_facts.specs.States.{Stays, state_of};
+ghost use Rattle.sql_facts.specs.States.{Stays, state_of};
 ghost use Rattle.index_store.specs.Entries.{AreStored, stored_seen};
 ghost use Rattle.index_store.specs.PortTable.{IsKeptWith, AddsShown, stored_in, row_shown};
 

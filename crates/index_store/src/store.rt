@@ -14,7 +14,7 @@ use sqlite::{Connection, MemStore};
 use std::alloc::{AllocError, Global};
 use std::collections::BTreeSet;
 use std::marker::Model;
-use table_facts::Sqlite;
+use sql_facts::Sqlite;
 
 /// The rows of one tenant's index, in a database in memory of its own. Clauses see what is stored for each
 /// path (`stored_by`), and with which profile (`profiles_by`).

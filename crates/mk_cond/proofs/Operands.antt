@@ -4,11 +4,11 @@ use Rattle.std.proofs.lemmas.List.{drop_more, drop_all}
 use Rattle.mk_base.specs.declared.faults.FaultKind.{FaultKind}
 use Rattle.mk_base.specs.Outcome.{after}
 use Rattle.mk_files.specs.Questions.{Account}
-use Rattle.cond_grammar.specs.declared.nodes.Condition.{Condition, out-Condition}
-use Rattle.cond_grammar.specs.declared.nodes.Conjunction.{Conjunction, out-Conjunction}
-use Rattle.cond_grammar.specs.declared.nodes.Term.{Term}
-use Rattle.cond_grammar.specs.Reader.{later_ands, later_nots}
-use Rattle.cond_grammar.specs.Views.{condition_tree, conjunction_tree, term_tree, tree-condition, tree-conjunction}
+use Rattle.mk_cond_tree.specs.declared.nodes.Condition.{Condition, out-Condition}
+use Rattle.mk_cond_tree.specs.declared.nodes.Conjunction.{Conjunction, out-Conjunction}
+use Rattle.mk_cond_tree.specs.declared.nodes.Term.{Term}
+use Rattle.mk_cond_tree.specs.Reader.{later_ands, later_nots}
+use Rattle.mk_cond_tree.specs.Views.{condition_tree, conjunction_tree, term_tree, tree-condition, tree-conjunction}
 use Rattle.mk_cond.specs.Leaves.{Surroundings}
 use Rattle.mk_cond.specs.Truths.{or_truth, later_ands_truth, and_truth, later_nots_truth, not_truth}
 

@@ -4,18 +4,18 @@ use Rattle.std.proofs.Math.ListN.{get_or-append}
 use Rattle.std.proofs.lemmas.List.{get_or-append-add}
 use Rattle.std.proofs.lemmas.List.Elements.{All-head, All-tail}
 use Rattle.mk_text.specs.declared.span.Span.{Span}
-use Rattle.cond_grammar.specs.declared.nodes.Condition.{Condition, out-Condition}
-use Rattle.cond_grammar.specs.declared.nodes.Conjunction.{Conjunction, out-Conjunction}
-use Rattle.cond_grammar.specs.declared.nodes.Term.{Term}
-use Rattle.cond_grammar.specs.declared.nodes.Term.TheVariants as v
-use Rattle.cond_grammar.specs.declared.tokens.Call.{Call}
-use Rattle.cond_grammar.specs.declared.tokens.Comparison.{Comparison}
-use Rattle.cond_grammar.specs.declared.tokens.Side.{Side}
-use Rattle.cond_grammar.specs.declared.tokens.Token.{Token}
-use Rattle.cond_grammar.specs.declared.tokens.Token.TheVariants as t
-use Rattle.cond_grammar.specs.Reader.{later_ands, later_nots}
-use Rattle.cond_grammar.specs.Trees.{or_tokens, later_and_tokens, and_tokens, later_not_tokens, not_tokens}
-use Rattle.cond_grammar.specs.Views.{condition_tree, conjunction_tree, term_tree, tree-condition, tree-conjunction, tree-not, tree-group, tree-call, tree-compare, tree-side}
+use Rattle.mk_cond_tree.specs.declared.nodes.Condition.{Condition, out-Condition}
+use Rattle.mk_cond_tree.specs.declared.nodes.Conjunction.{Conjunction, out-Conjunction}
+use Rattle.mk_cond_tree.specs.declared.nodes.Term.{Term}
+use Rattle.mk_cond_tree.specs.declared.nodes.Term.TheVariants as v
+use Rattle.mk_cond_tree.specs.declared.tokens.Call.{Call}
+use Rattle.mk_cond_tree.specs.declared.tokens.Comparison.{Comparison}
+use Rattle.mk_cond_tree.specs.declared.tokens.Side.{Side}
+use Rattle.mk_cond_tree.specs.declared.tokens.Token.{Token}
+use Rattle.mk_cond_tree.specs.declared.tokens.Token.TheVariants as t
+use Rattle.mk_cond_tree.specs.Reader.{later_ands, later_nots}
+use Rattle.mk_cond_tree.specs.Trees.{or_tokens, later_and_tokens, and_tokens, later_not_tokens, not_tokens}
+use Rattle.mk_cond_tree.specs.Views.{condition_tree, conjunction_tree, term_tree, tree-condition, tree-conjunction, tree-not, tree-group, tree-call, tree-compare, tree-side}
 
 -- tokens that are among others, one after another
 pub record IsPart (part all : List Token) : Type 0 where

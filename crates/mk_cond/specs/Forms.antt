@@ -4,7 +4,7 @@ use Rattle.std.specs.List.{position}
 use Rattle.std.specs.Str.{bytes_eq}
 use Rattle.std.specs.Borrow.{Bor}
 use Rattle.mk_text.specs.Blanks.{is_blank}
-use Rattle.cond_grammar.specs.declared.tokens.Call.TheVariants.{Defined, Make}
+use Rattle.mk_cond_tree.specs.declared.tokens.Call.TheVariants.{Defined, Make}
 use Rattle.mk_cond.specs.declared.forms.Form.{Form}
 
 -- The form of the directive with a word: what a lone word of its condition asks, and whether the truth of

@@ -20,12 +20,12 @@ use Rattle.mk_paths.specs.declared.file_name.NameFault.{NameFault}
 use Rattle.mk_paths.specs.FileName.{name_under, directory_of, resolved}
 use Rattle.mk_paths.specs.World.{FileMap}
 use Rattle.mk_files.specs.Questions.{Account, quietly, ask_has}
-use Rattle.cond_grammar.specs.declared.tokens.Call.{Call}
-use Rattle.cond_grammar.specs.declared.tokens.Call.TheVariants.{Defined, Empty, Exists, Make, Target}
-use Rattle.cond_grammar.specs.declared.tokens.Comparison.{Comparison}
-use Rattle.cond_grammar.specs.declared.tokens.Comparison.TheVariants as signs
-use Rattle.cond_grammar.specs.declared.tokens.Side.{Side}
-use Rattle.cond_grammar.specs.declared.tokens.Side.TheVariants.{Quoted, Bare}
+use Rattle.mk_cond_tree.specs.declared.tokens.Call.{Call}
+use Rattle.mk_cond_tree.specs.declared.tokens.Call.TheVariants.{Defined, Empty, Exists, Make, Target}
+use Rattle.mk_cond_tree.specs.declared.tokens.Comparison.{Comparison}
+use Rattle.mk_cond_tree.specs.declared.tokens.Comparison.TheVariants as signs
+use Rattle.mk_cond_tree.specs.declared.tokens.Side.{Side}
+use Rattle.mk_cond_tree.specs.declared.tokens.Side.TheVariants.{Quoted, Bare}
 use Rattle.mk_cond.specs.Numbers.{hex_or_decimal, numbers_compare, isnt_zero}
 use Rattle.mk_cond.specs.declared.setting.Setting.{Setting}
 

@@ -6,8 +6,8 @@ use Rattle.std.specs.Char.{is_digit}
 use Rattle.std.specs.Ordering.{int_eq}
 use Rattle.std.specs.Str.Parse.{digits_value}
 use Rattle.general_facts.specs.Ascii.{plus_sign, dash}
-use Rattle.cond_grammar.specs.declared.tokens.Comparison.{Comparison}
-use Rattle.cond_grammar.specs.declared.tokens.Comparison.TheVariants as signs
+use Rattle.mk_cond_tree.specs.declared.tokens.Comparison.{Comparison}
+use Rattle.mk_cond_tree.specs.declared.tokens.Comparison.TheVariants as signs
 
 -- one digit or more in a radix, and no more than this many
 abbrev pub is_numeral : ℕ → ℕ → List ℕ → Bool

@@ -10,13 +10,13 @@ use Rattle.mk_cond.specs.Truth.{condition_truth, directive_truth, truth}
 use Rattle.mk_cond.specs.Leaves.{surroundings_of, call_holds, exists, side_alone, bare, is_defined, has_no_word, compared, has_text}
 use Rattle.mk_cond.specs.Leaves.{has_true}
 use Rattle.mk_env.specs.Texts.{Variables}
-use Rattle.cond_grammar.specs.declared.tokens.Call.{Call}
-use Rattle.cond_grammar.specs.declared.tokens.Side.{Side}
-use Rattle.cond_grammar.specs.Trees.{OrTree, AndTree, NotTree}
+use Rattle.mk_cond_tree.specs.declared.tokens.Call.{Call}
+use Rattle.mk_cond_tree.specs.declared.tokens.Side.{Side}
+use Rattle.mk_cond_tree.specs.Trees.{OrTree, AndTree, NotTree}
 use Rattle.mk_cond.specs.Truths.{or_truth, and_truth, not_truth}
 use Rattle.mk_base.specs.declared.stops.PureStop.{PureStop}
 use Rattle.mk_base.specs.Stops.{GivesPurely}
-use Rattle.cond_grammar.specs.declared.tokens.Comparison.{Comparison}
+use Rattle.mk_cond_tree.specs.declared.tokens.Comparison.{Comparison}
 
 -- a function does the work that the condition of a setting asks for
 abbrev pub DoesCondition : {F : Type 0} → Ghosts F → Setting

@@ -8,8 +8,8 @@ use Rattle.mk_ref.specs.Outside.{outside}
 use Rattle.mk_env.specs.Texts.{Variables}
 use Rattle.mk_paths.specs.World.{FileMap}
 use Rattle.mk_files.specs.Questions.{Account}
-use Rattle.cond_grammar.specs.Trees.{OrTree}
-use Rattle.cond_grammar.specs.Conditions.{tree_in}
+use Rattle.mk_cond_tree.specs.Trees.{OrTree}
+use Rattle.mk_cond_tree.specs.Conditions.{tree_in}
 use Rattle.mk_cond.specs.declared.forms.Form.{Form}
 use Rattle.mk_cond.specs.Forms.{parted}
 use Rattle.mk_cond.specs.Leaves.{Surroundings}

@@ -4,8 +4,8 @@ use Rattle.mk_base.specs.declared.faults.FaultKind.{FaultKind}
 use Rattle.mk_base.specs.Outcome.{Work, give, ◌>>=◌}
 use Rattle.mk_text.specs.Words.{span_text}
 use Rattle.mk_files.specs.Questions.{Account, quietly}
-use Rattle.cond_grammar.specs.Trees.{OrTree, OrOf, LaterAnds, NoAnds, MoreAnds, AndTree, AndOf, LaterNots, NoNots}
-use Rattle.cond_grammar.specs.Trees.{MoreNots, NotTree, Negated, Grouped, Called, Compared, Alone}
+use Rattle.mk_cond_tree.specs.Trees.{OrTree, OrOf, LaterAnds, NoAnds, MoreAnds, AndTree, AndOf, LaterNots, NoNots}
+use Rattle.mk_cond_tree.specs.Trees.{MoreNots, NotTree, Negated, Grouped, Called, Compared, Alone}
 use Rattle.mk_cond.specs.Leaves.{Surroundings, call_holds, compared, side_alone}
 
 -- `||` looks at its next operand if none held so far, and `&&` if all did

@@ -1,13 +1,13 @@
 //! Comparisons in conditions.
 ghost use Rattle.std.specs.Prelude.{◌≡◌};
 ghost use Rattle.mk_base.specs.Meter.{IsLater};
-ghost use Rattle.cond_grammar.specs.Placed.{IsSideIn};
+ghost use Rattle.mk_cond_tree.specs.Placed.{IsSideIn};
 ghost use Rattle.mk_cond.specs.Leaves as leaves;
 ghost use Rattle.mk_cond.specs.Tasks.{ComparesSides};
 
 use crate::numbers::{number_of, numbers_compare};
 use crate::setting::Setting;
-use cond_grammar::{Comparison, Side};
+use mk_cond_tree::{Comparison, Side};
 use mk_base::{Budget, FaultKind, PureStop};
 use mk_env::expand;
 use std::alloc::Global;

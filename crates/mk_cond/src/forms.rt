@@ -4,7 +4,7 @@ ghost use Rattle.std.specs.List.{position};
 ghost use Rattle.mk_text.specs.Blanks.{is_blank};
 ghost use Rattle.mk_cond.specs.Forms.{form_named, parted, shown_parts};
 
-use cond_grammar::Call;
+use mk_cond_tree::Call;
 use mk_text::is_blank;
 
 /// What a directive makes of its condition (make(1), "CONDITIONALS").

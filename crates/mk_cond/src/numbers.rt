@@ -5,7 +5,7 @@ ghost use Rattle.std.specs.List.{list_all};
 ghost use Rattle.std.specs.Char.{is_digit};
 ghost use Rattle.mk_cond.specs.Numbers.{is_numeral, numeral, decimal, hex_or_decimal, numbers_compare, isnt_zero};
 
-use cond_grammar::Comparison;
+use mk_cond_tree::Comparison;
 use std::str;
 
 /// The number that a text is: `0x` and 1 to 15 hexadecimal digits, or `-`, `+` or no sign and 1 to 18

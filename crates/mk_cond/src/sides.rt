@@ -2,7 +2,7 @@
 ghost use Rattle.std.specs.Prelude.{◌≡◌, IfOk};
 ghost use Rattle.mk_base.specs.Meter.{IsLater};
 ghost use Rattle.std.specs.List.{list_any};
-ghost use Rattle.cond_grammar.specs.Placed.{IsSideIn};
+ghost use Rattle.mk_cond_tree.specs.Placed.{IsSideIn};
 ghost use Rattle.mk_cond.specs.Leaves as leaves;
 ghost use Rattle.mk_cond.specs.Leaves.{is_reference_piece};
 ghost use Rattle.mk_cond.specs.Tasks.{DoesSide, DoesWord, TellsHasText, TellsHasTrue};
@@ -10,7 +10,7 @@ ghost use Rattle.mk_cond.specs.Tasks.{DoesSide, DoesWord, TellsHasText, TellsHas
 use crate::calls::call_truth;
 use crate::numbers::{isnt_zero, number_of};
 use crate::setting::Setting;
-use cond_grammar::Side;
+use mk_cond_tree::Side;
 use mk_base::{Budget, FaultKind, PureStop, Stop};
 use mk_env::{Env, expand};
 use mk_paths::Names;

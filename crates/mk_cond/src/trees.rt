@@ -1,15 +1,15 @@
 //! The truth of the tree of a condition.
 ghost use Rattle.std.specs.Prelude.{All};
-ghost use Rattle.cond_grammar.specs.Placed.{IsTokenIn};
-ghost use Rattle.cond_grammar.specs.Trees.{or_tokens, and_tokens, not_tokens};
-ghost use Rattle.cond_grammar.specs.Views.{condition_tree, conjunction_tree, term_tree};
+ghost use Rattle.mk_cond_tree.specs.Placed.{IsTokenIn};
+ghost use Rattle.mk_cond_tree.specs.Trees.{or_tokens, and_tokens, not_tokens};
+ghost use Rattle.mk_cond_tree.specs.Views.{condition_tree, conjunction_tree, term_tree};
 ghost use Rattle.mk_cond.specs.Tasks.{TellsAny, TellsAll, DoesTerm};
 
 use crate::calls::call_truth;
 use crate::comparisons::compared;
 use crate::setting::Setting;
 use crate::sides::side_truth;
-use cond_grammar::{Condition, Conjunction, Term};
+use mk_cond_tree::{Condition, Conjunction, Term};
 use mk_base::{Budget, FaultKind, Stop};
 use mk_paths::Names;
 use std::alloc::Global;

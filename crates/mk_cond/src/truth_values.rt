@@ -5,7 +5,7 @@ ghost use Rattle.mk_cond.specs.Tasks.{DoesCondition, DoesDirective, TellsTruth};
 use crate::forms::parted;
 use crate::setting::Setting;
 use crate::trees::condition_truth;
-use cond_grammar::{Condition, ConditionError, conditions_are_read, read_condition};
+use mk_cond_tree::{Condition, ConditionError, conditions_are_read, read_condition};
 use mk_base::{Budget, FaultKind, Stop};
 use mk_env::Env;
 use mk_paths::{Name, Names};

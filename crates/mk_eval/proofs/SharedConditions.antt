@@ -8,13 +8,13 @@ use Rattle.mk_env.specs.Texts.{Variables}
 use Rattle.mk_paths.specs.declared.file_name.NameFault.{NameFault}
 use Rattle.mk_paths.specs.FileName.{name_under, directory_of, resolved}
 use Rattle.mk_paths.specs.World.{FileMap}
-use Rattle.cond_grammar.specs.declared.tokens.Call.{Call}
-use Rattle.cond_grammar.specs.declared.tokens.Call.TheVariants.{Defined, Empty, Exists, Make, Target}
-use Rattle.cond_grammar.specs.declared.tokens.Comparison.{Comparison}
-use Rattle.cond_grammar.specs.declared.tokens.Side.{Side}
-use Rattle.cond_grammar.specs.declared.tokens.Side.TheVariants.{Quoted, Bare}
-use Rattle.cond_grammar.specs.Trees.{OrTree, OrOf, LaterAnds, NoAnds, MoreAnds, AndTree, AndOf, LaterNots, NoNots, MoreNots, NotTree, Negated, Grouped, Called, Compared, Alone}
-use Rattle.cond_grammar.specs.Conditions.{tree_in}
+use Rattle.mk_cond_tree.specs.declared.tokens.Call.{Call}
+use Rattle.mk_cond_tree.specs.declared.tokens.Call.TheVariants.{Defined, Empty, Exists, Make, Target}
+use Rattle.mk_cond_tree.specs.declared.tokens.Comparison.{Comparison}
+use Rattle.mk_cond_tree.specs.declared.tokens.Side.{Side}
+use Rattle.mk_cond_tree.specs.declared.tokens.Side.TheVariants.{Quoted, Bare}
+use Rattle.mk_cond_tree.specs.Trees.{OrTree, OrOf, LaterAnds, NoAnds, MoreAnds, AndTree, AndOf, LaterNots, NoNots, MoreNots, NotTree, Negated, Grouped, Called, Compared, Alone}
+use Rattle.mk_cond_tree.specs.Conditions.{tree_in}
 use Rattle.mk_cond.specs.Numbers.{hex_or_decimal}
 use Rattle.mk_cond.specs.Leaves.{Surroundings, ask_if_there, call_holds, known, compared, has_reference, lone, bare, side_alone}
 use Rattle.mk_cond.specs.Truths.{or_truth, later_ands_truth, and_truth, later_nots_truth, not_truth}

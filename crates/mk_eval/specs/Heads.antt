@@ -13,7 +13,7 @@ use Rattle.mk_paths.specs.World.{FileMap}
 use Rattle.mk_files.specs.Questions.{Account, quietly}
 use Rattle.mk_cond.specs.declared.forms.Form.{Form}
 use Rattle.mk_cond.specs.Truth.{parts_truth}
-use Rattle.cond_grammar.specs.declared.tokens.Call.TheVariants.{Defined, Make}
+use Rattle.mk_cond_tree.specs.declared.tokens.Call.TheVariants.{Defined, Make}
 use Rattle.mk_loop.specs.LoopWords.{LoopWords}
 use Rattle.mk_loop.specs.Header.{header}
 use Rattle.mk_eval.specs.Lines.{Loops, put_in}

@@ -7,7 +7,7 @@ ghost use Rattle.mk_eval.specs.Heads as heads;
 ghost use Rattle.mk_eval.specs.LineParts.{PutsIn, GivesHead, GivesHeader, BeginsLoop, condition};
 ghost use Rattle.mk_eval.specs.Steps.{Pays, Judges};
 
-use cond_grammar::Call;
+use mk_cond_tree::Call;
 use mk_ast::{Directive, LineKind, line_kind};
 use mk_base::{Budget, FaultKind, PureStop, Stop};
 use mk_cond::{Form, Setting, directive_truth};

@@ -3,11 +3,11 @@ use Rattle.std.proofs.Common.{◌≡◌, ◌∙◌, sym, ap, refl, ℕ, Bool, tr
 use Rattle.std.proofs.lemmas.Slice.Eq.{bytes_eq-Decides}
 use Rattle.std.specs.Str.{bytes_eq}
 use Rattle.mk_paths.specs.World.{World}
-use Rattle.ports_index.specs.PathOutcomes.{PathOutcome, outcome_at}
-use Rattle.ports_index.specs.FilledRows.{is_one_of, Fills}
-use Rattle.ports_index.specs.RowLaws.{SayAll}
-use Rattle.ports_index.specs.Seen.{known_row}
-use Rattle.ports_index.proofs.Filled.{Entries, one_of-append}
+use Rattle.port_index.specs.PathOutcomes.{PathOutcome, outcome_at}
+use Rattle.port_index.specs.FilledRows.{is_one_of, Fills}
+use Rattle.port_index.specs.RowLaws.{SayAll}
+use Rattle.port_index.specs.Seen.{known_row}
+use Rattle.port_index.proofs.Filled.{Entries, one_of-append}
 use Rattle.plain_reference.specs.Right.{AreOutcomes, Stay}
 
 pub Stay-on : (first middle last : Entries) → Stay first middle → Stay middle last → Stay first last

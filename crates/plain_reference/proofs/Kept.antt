@@ -3,7 +3,7 @@ use Rattle.std.proofs.Common.{◌≡◌, ◌∙◌, ◌+◌, ◌-◌, ◌^◌, m
 use Rattle.mk_paths.specs.FilesView.{FilesView}
 use Rattle.mk_paths.specs.declared.files.FilesFault.{FilesFault}
 use Rattle.mk_paths.specs.declared.files.FilesFault.TheVariants as faults
-use Rattle.ports_index.specs.KeptFiles.{Counts, KeepsFiles}
+use Rattle.port_index.specs.KeptFiles.{Counts, KeepsFiles}
 
 counts : (fault : Option FilesFault) (first middle last : FilesView) → middle.failures ≡ first.failures → Counts fault middle last → Counts fault first last
 counts None first middle last same more = more ∙ same

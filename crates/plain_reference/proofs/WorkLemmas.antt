@@ -3,11 +3,11 @@ use Rattle.std.proofs.Common.{◌≡◌, ◌∙◌, sym, ap, ap₂, refl, ℕ, �
 use Rattle.std.specs.List.{sum_by, filter}
 use Rattle.text_parts.specs.Order.{in_order}
 use Rattle.mk_paths.specs.World.{World}
-use Rattle.ports_index.specs.PathOutcomes.{PathOutcome, Absent, Faulty, Port, BadPort, Lists, BadList, FlavoredList, Other, Finding, counted, finding_at, outcome_at, cost_at}
-use Rattle.ports_index.specs.Efforts.{evaluations_at, evaluations_for, lacking}
-use Rattle.ports_index.specs.FilledRows.{is_one_of, Fills}
-use Rattle.ports_index.proofs.Filled.{Entries}
-use Rattle.ports_index.proofs.EffortLemmas.{sum-on, lacking-same, in_order-same}
+use Rattle.port_index.specs.PathOutcomes.{PathOutcome, Absent, Faulty, Port, BadPort, Lists, BadList, FlavoredList, Other, Finding, counted, finding_at, outcome_at, cost_at}
+use Rattle.port_index.specs.Efforts.{evaluations_at, evaluations_for, lacking}
+use Rattle.port_index.specs.FilledRows.{is_one_of, Fills}
+use Rattle.port_index.proofs.Filled.{Entries}
+use Rattle.port_index.proofs.EffortLemmas.{sum-on, lacking-same, in_order-same}
 use Rattle.plain_reference.specs.Work.{effort_of, both, effort_over}
 use Rattle.plain_reference.specs.declared.effort.Effort.{Effort}
 use Rattle.plain_reference.proofs.Filled.{one_of-absorbed}

@@ -4,10 +4,10 @@ use Rattle.std.specs.Prelude.{◌≡◌, ℕ, List, [], ◌∷◌, map, String, 
 use Rattle.std.specs.Global.{Global}
 use Rattle.mk_paths.specs.FilesView.{FilesView, view_world}
 use Rattle.mk_paths.specs.declared.search_path.Settings.{Settings}
-use Rattle.ports_index.specs.Efforts.{lacking}
-use Rattle.ports_index.specs.FilledRows.{Fills}
-use Rattle.ports_index.specs.Seen.{entries_in}
-use Rattle.ports_index.specs.declared.memory_rows.MemoryRows.{MemoryRows}
+use Rattle.port_index.specs.Efforts.{lacking}
+use Rattle.port_index.specs.FilledRows.{Fills}
+use Rattle.port_index.specs.Seen.{entries_in}
+use Rattle.port_index.specs.declared.memory_rows.MemoryRows.{MemoryRows}
 use Rattle.plain_reference.specs.Work.{effort_over}
 use Rattle.plain_reference.specs.declared.effort.Effort.{Effort}
 

@@ -9,10 +9,10 @@ use Rattle.mk_eval.specs.Agreement.{questions_of}
 use Rattle.mk_eval.specs.Views.{flavors_in}
 use Rattle.mk_eval.specs.declared.outcome.Evaluated.{Evaluated}
 use Rattle.mk_eval.specs.declared.outcome.Failed.{Failed}
-use Rattle.ports_index.specs.PathOutcomes as outcomes
-use Rattle.ports_index.specs.PathQuestions as asked
-use Rattle.ports_index.specs.Seen.{finding_seen}
-use Rattle.ports_index.specs.declared.path_outcomes.Finding.{Finding}
+use Rattle.port_index.specs.PathOutcomes as outcomes
+use Rattle.port_index.specs.PathQuestions as asked
+use Rattle.port_index.specs.Seen.{finding_seen}
+use Rattle.port_index.specs.declared.path_outcomes.Finding.{Finding}
 
 -- where a function succeeds, it found what a path leads to
 abbrev pub FindsAt : {E : Type 0} → Result Finding E → FilesView → Settings → List ℕ → Type 0

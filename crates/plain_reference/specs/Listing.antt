@@ -3,13 +3,13 @@ use Rattle.std.specs.Prelude.{◌≡◌, map, string_bytes, Result, IfOk, OnOk}
 use Rattle.mk_paths.specs.FilesView.{FilesView, view_world}
 use Rattle.mk_paths.specs.World.{FileMap, World}
 use Rattle.mk_paths.specs.declared.search_path.Settings.{Settings}
-use Rattle.ports_index.specs.Efforts.{lacking}
-use Rattle.ports_index.specs.FilledRows.{Fills}
-use Rattle.ports_index.specs.Index as indexed
-use Rattle.ports_index.specs.Known.{IsIndexOf}
-use Rattle.ports_index.specs.TreePaths as tree_paths
-use Rattle.ports_index.specs.Seen.{entries_in}
-use Rattle.ports_index.specs.declared.memory_rows.MemoryRows.{MemoryRows}
+use Rattle.port_index.specs.Efforts.{lacking}
+use Rattle.port_index.specs.FilledRows.{Fills}
+use Rattle.port_index.specs.Index as indexed
+use Rattle.port_index.specs.Known.{IsIndexOf}
+use Rattle.port_index.specs.TreePaths as tree_paths
+use Rattle.port_index.specs.Seen.{entries_in}
+use Rattle.port_index.specs.declared.memory_rows.MemoryRows.{MemoryRows}
 use Rattle.plain_reference.specs.Work.{effort_over}
 use Rattle.plain_reference.specs.declared.index.Index.{Index}
 use Rattle.plain_reference.specs.declared.index.Listed.{Listed}

@@ -2,9 +2,9 @@
 use Rattle.std.specs.Prelude.{◌≡◌, ℕ, List, ◌++◌, map, Option, Result, IfOk, String, string_bytes, Vec}
 use Rattle.std.specs.Global.{Global}
 use Rattle.text_parts.specs.Order.{in_order}
-use Rattle.ports_index.specs.Index.{needed_among}
-use Rattle.ports_index.specs.PathOutcomes.{PathOutcome}
-use Rattle.ports_index.specs.Seen.{known_in}
+use Rattle.port_index.specs.Index.{needed_among}
+use Rattle.port_index.specs.PathOutcomes.{PathOutcome}
+use Rattle.port_index.specs.Seen.{known_in}
 
 -- each once: the listed paths, and those beside them
 abbrev pub needed_with : List (List ℕ) → List (List ℕ) → List (List ℕ)

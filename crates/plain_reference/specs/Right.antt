@@ -1,7 +1,7 @@
 -- Rows that are right, and rows that stay.
 use Rattle.std.specs.Prelude.{◌≡◌, ℕ, List, Option, Some}
 use Rattle.mk_paths.specs.World.{World}
-use Rattle.ports_index.specs.PathOutcomes.{PathOutcome, outcome_at}
+use Rattle.port_index.specs.PathOutcomes.{PathOutcome, outcome_at}
 
 -- each row says what its path leads to
 abbrev pub AreOutcomes : World → (List ℕ → Option PathOutcome) → Type 0

@@ -2,14 +2,14 @@
 use Rattle.std.specs.Prelude.{◌≡◌, ℕ, ◌+◌, List, length, Result, IfOk}
 use Rattle.mk_paths.specs.World.{World}
 use Rattle.plain_reference.specs.declared.effort.Effort.{Effort}
-use Rattle.ports_index.specs.Efforts.{evaluations_for, evaluations_over, cost_over}
-use Rattle.ports_index.specs.PathOutcomes.{Finding, counted}
+use Rattle.port_index.specs.Efforts.{evaluations_for, evaluations_over, cost_over}
+use Rattle.port_index.specs.PathOutcomes.{Finding, counted}
 use Rattle.ports_http.specs.Messages.{ReplyMessage}
-use Rattle.ports_plain.specs.Answers.{port_reply_to}
-use Rattle.ports_plain.specs.AnswerCosts.{cost_for, rests_for}
-use Rattle.ports_plain.specs.declared.port_questions.PortQuestion.{PortQuestion}
-use Rattle.ports_plain.specs.declared.questions.Question.{Question}
-use Rattle.ports_plain.specs.declared.questions.Question.TheVariants.{OfPort}
+use Rattle.plain_service.specs.Answers.{port_reply_to}
+use Rattle.plain_service.specs.AnswerCosts.{cost_for, rests_for}
+use Rattle.plain_service.specs.declared.port_questions.PortQuestion.{PortQuestion}
+use Rattle.plain_service.specs.declared.questions.Question.{Question}
+use Rattle.plain_service.specs.declared.questions.Question.TheVariants.{OfPort}
 
 abbrev pub no_effort : Effort
 no_effort = record { evaluations = 0; units = 0 }

@@ -1,8 +1,8 @@
 //! Questions that are answered at once.
 ghost use Rattle.mk_paths.specs.FilesView.{view_world};
 ghost use Rattle.plain_reference.specs.Work.{RepliesTo, TellsEffort, effort_for};
-ghost use Rattle.ports_plain.specs.Answers.{answer_to};
-ghost use Rattle.ports_plain.specs.Outcomes.{IfMade, Prepares};
+ghost use Rattle.plain_service.specs.Answers.{answer_to};
+ghost use Rattle.plain_service.specs.Outcomes.{IfMade, Prepares};
 
 use crate::effort::Effort;
 use crate::index::index_files;
@@ -10,8 +10,8 @@ use crate::path_outcomes::outcome_of;
 use mk_files::Listing;
 use mk_paths::{FilesFault, Settings, find};
 use ports_http::Reply;
-use ports_index::makefiles_are_evaluated;
-use ports_plain::{PortQuestion, Prepared, Question, no_port};
+use port_index::makefiles_are_evaluated;
+use plain_service::{PortQuestion, Prepared, Question, no_port};
 use std::alloc::Global;
 
 /// The answer to a question over the world of these files and settings: its reply, and what is to be changed. It fails if

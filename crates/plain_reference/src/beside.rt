@@ -1,13 +1,13 @@
 //! The paths beside the listed ones on which an index depends.
 ghost use Rattle.std.specs.Prelude.{◌≡◌, map, string_bytes, IfOk, OnOk, option_map};
 ghost use Rattle.std.specs.List.{filter_map};
-ghost use Rattle.ports_index.specs.Dependencies.{target_by, targets_in};
-ghost use Rattle.ports_index.specs.Seen.{AddsPath, AddsTexts, entries_in, row_says};
+ghost use Rattle.port_index.specs.Dependencies.{target_by, targets_in};
+ghost use Rattle.port_index.specs.Seen.{AddsPath, AddsTexts, entries_in, row_says};
 ghost use Rattle.plain_reference.specs.Needed.{GivesBeside};
 
 use port_deps::read_wanted;
 use port_rules::Depend;
-use ports_index::{MemoryRows, Row};
+use port_index::{MemoryRows, Row};
 use std::alloc::{AllocError, Global};
 
 /// The paths on which the index depends beside the listed ones, by the rows of these: those that the items of ports

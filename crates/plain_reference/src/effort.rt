@@ -1,10 +1,10 @@
 //! How much work it takes to learn what paths lead to.
 ghost use Rattle.std.specs.Prelude.{◌≡◌};
 ghost use Rattle.plain_reference.specs.Work as work;
-ghost use Rattle.ports_index.specs.Efforts.{is_there};
-ghost use Rattle.ports_index.specs.Seen.{finding_seen, row_seen};
+ghost use Rattle.port_index.specs.Efforts.{is_there};
+ghost use Rattle.port_index.specs.Seen.{finding_seen, row_seen};
 
-use ports_index::{Finding, Row};
+use port_index::{Finding, Row};
 
 /// How much work it took to learn what paths lead to. Both counts stop at 2^64 - 1.
 #[derive(Clone, Copy, Debug, PartialEq, Eq)]

@@ -4,14 +4,14 @@ ghost use Rattle.std.specs.Prelude.{◌≡◌};
 ghost use Rattle.std.specs.Result.{result_err};
 ghost use Rattle.plain_reference.specs.Filled.{FillsAll, FillsOne, TellsWorkOfAll, TellsWorkOfOne};
 ghost use Rattle.plain_reference.specs.Right.{AreOutcomes, Stay};
-ghost use Rattle.ports_index.specs.KeptFiles.{KeepsFiles};
-ghost use Rattle.ports_index.specs.Seen.{entries_in};
+ghost use Rattle.port_index.specs.KeptFiles.{KeepsFiles};
+ghost use Rattle.port_index.specs.Seen.{entries_in};
 
 use crate::effort::Effort;
 use crate::path_outcomes::evaluate_path;
 use mk_files::Files;
 use mk_paths::{FilesFault, Settings};
-use ports_index::{KnownRow, MemoryRows, Row};
+use port_index::{KnownRow, MemoryRows, Row};
 use std::alloc::Global;
 
 /// Gives a row to each of these paths that has none yet: what the path leads to. If all rows were right

@@ -4,15 +4,15 @@ ghost use Rattle.mk_paths.specs.FilesView.{view_world};
 ghost use Rattle.plain_reference.specs.Listing.{FillsPaths, GivesIndex, ListsAllPaths, ListsDirectories};
 ghost use Rattle.plain_reference.specs.Listing.{TellsWorkOfIndex, TellsListWork};
 ghost use Rattle.plain_reference.specs.Right.{AreOutcomes, Stay};
-ghost use Rattle.ports_index.specs.KeptFiles.{KeepsFiles};
-ghost use Rattle.ports_index.specs.Seen.{entries_in};
+ghost use Rattle.port_index.specs.KeptFiles.{KeepsFiles};
+ghost use Rattle.port_index.specs.Seen.{entries_in};
 
 use crate::beside::paths_beside;
 use crate::effort::Effort;
 use crate::filled_rows::fill;
 use mk_files::Listing;
 use mk_paths::{FilesFault, Settings};
-use ports_index::{IndexPaths, KnownIndex, MemoryRows, directories, known_rows_are_enough, listed};
+use port_index::{IndexPaths, KnownIndex, MemoryRows, directories, known_rows_are_enough, listed};
 use std::alloc::Global;
 
 /// The ports of a ports tree, and their dependencies.

@@ -1,6 +1,6 @@
 //! What a path of a ports tree leads to, by its files.
 ghost use Rattle.std.specs.Result.{result_err};
-ghost use Rattle.ports_index.specs.KeptFiles.{KeepsFiles};
+ghost use Rattle.port_index.specs.KeptFiles.{KeepsFiles};
 ghost use Rattle.plain_reference.specs.Findings.{AsksAt, FindsAt, FindsBy, FindsIn, IfMeans, Logs, Polls};
 
 use mk_base::Stop;
@@ -9,7 +9,7 @@ use mk_files::Files;
 use mk_paths::{FilesFault, Name, Settings, find};
 use mk_step::evaluate;
 use pkg_path::PkgPath;
-use ports_index::{Finding, finding_of};
+use port_index::{Finding, finding_of};
 use std::alloc::Global;
 
 /// What a path leads to in these files under these settings. The path is in its canonical form, without a
@@ -20,7 +20,7 @@ use std::alloc::Global;
 /// the first that has its makefile, and then what the evaluation asks.
 ///
 /// It fails if the files fail, or if memory runs out.
-#[tactic(auto, unfolding(ports_index::specs::PathOutcomes::finding_at, ports_index::specs::PathQuestions::questions_at))]
+#[tactic(auto, unfolding(port_index::specs::PathOutcomes::finding_at, port_index::specs::PathQuestions::questions_at))]
 pub fn evaluate_path<F: Files>(
     alloc: Global,
     files: &mut F,

@@ -4,7 +4,7 @@ use make_cases::{Asking, FailingFiles, World, add_cost, failing_answer, given_na
 use mk_files::Content;
 use mk_paths::{FilesFault, Settings};
 use plain_reference::evaluate_path;
-use ports_index::{Finding, Row};
+use port_index::{Finding, Row};
 use read_trace::{Recorder, Reply, Trace, agrees};
 use std::alloc::Global;
 

@@ -2,7 +2,7 @@
 
 use case_lines::Answer;
 use index_keep::Refreshed;
-use ports_index::Spent;
+use port_index::Spent;
 
 /// Adds what each of these turns told.
 pub(crate) fn tell_turns(answer: &mut Answer, turns: &[Refreshed]) {

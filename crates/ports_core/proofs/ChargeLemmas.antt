@@ -3,8 +3,8 @@ use Rattle.std.proofs.Common.{◌≡◌, ◌<◌, ◌∙◌, ℕ, Bool, true, fa
 use Rattle.std.specs.Prelude.{MatchBool, MatchOption, slice_get}
 use Rattle.std.proofs.lemmas.Option.{slice_get-get_or}
 use Rattle.mk_paths.specs.World.{World, opening_world}
-use Rattle.ports_index.specs.declared.spent.Spent.{Spent}
-use Rattle.ports_index.specs.Spent.{no_spending, spent_together}
+use Rattle.port_index.specs.declared.spent.Spent.{Spent}
+use Rattle.port_index.specs.Spent.{no_spending, spent_together}
 use Rattle.ports_http.specs.Messages.{ReplyMessage}
 use Rattle.ports_core.specs.declared.event.Tell.{Tell}
 use Rattle.ports_core.specs.declared.event.Told.{Told}

@@ -4,8 +4,8 @@ use Rattle.std.specs.Prelude.{map, if◌then◌else◌, option_map, unwrap_or}
 use Rattle.std.proofs.lemmas.List.Elements.{All-head, All-tail}
 use Rattle.std.proofs.lemmas.List.{nil_from_length}
 use Rattle.ports_http.specs.Messages.{ReplyMessage}
-use Rattle.ports_plain.specs.Requests.{PlainRequest}
-use Rattle.ports_plain.specs.Plain.{plain}
+use Rattle.plain_service.specs.Requests.{PlainRequest}
+use Rattle.plain_service.specs.Plain.{plain}
 use Rattle.ports_core.specs.declared.event.Event.{Event}
 use Rattle.ports_core.specs.declared.event.Tell.{Tell}
 use Rattle.ports_core.specs.declared.queue.QueuedRequest.{QueuedRequest}

@@ -4,7 +4,7 @@ use Rattle.std.specs.Prelude.{All}
 use Rattle.std.proofs.lemmas.List.Elements.{All-head, All-tail}
 use Rattle.mk_text.specs.declared.profile.Profile.{Profile}
 use Rattle.mk_paths.specs.World.{World, profile_of}
-use Rattle.ports_plain.specs.Languages.{OthersKeepTheProfile}
+use Rattle.plain_service.specs.Languages.{OthersKeepTheProfile}
 use Rattle.ports_core.specs.declared.queue.QueuedRequest.{QueuedRequest}
 use Rattle.ports_core.specs.Answers.{plain_request_of, plain_answer}
 use Rattle.ports_core.specs.Slices.{world_of}

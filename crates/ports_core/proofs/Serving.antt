@@ -4,12 +4,12 @@ use Rattle.std.specs.Prelude.{if◌then◌else◌}
 use Rattle.ports_core.specs.declared.event.Tell.{Tell}
 use Rattle.ports_core.specs.declared.queue.QueuedRequest.{QueuedRequest}
 use Rattle.ports_http.specs.Messages.{RequestMessage, ReplyMessage}
-use Rattle.ports_plain.specs.Plain.{Served}
+use Rattle.plain_service.specs.Plain.{Served}
 use Rattle.mk_paths.specs.World.{World}
 use Rattle.ports_core.specs.Answers.{AnswersRequest, plain_request_of, plain_answer}
 use Rattle.ports_core.specs.Tell.{is_failure}
 use Rattle.ports_core.specs.Plainly.{answers_of, own_of, plain_run, plain_world}
-use Rattle.ports_plain.proofs.NeverFails.{never_503}
+use Rattle.plain_service.proofs.NeverFails.{never_503}
 
 -- the replies told answer the first of the requests that wait, one for one; the others wait still
 abbrev pub Serves : World → List QueuedRequest → List Tell → World → List QueuedRequest → Type 0

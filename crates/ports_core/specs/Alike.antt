@@ -1,7 +1,7 @@
 -- Two runs with the same requests of a tenant.
 use Rattle.std.specs.Prelude.{◌≡◌, ◌⊎◌, ℕ, List, map}
 use Rattle.ports_http.specs.Messages.{ReplyMessage}
-use Rattle.ports_plain.specs.Requests.{PlainRequest}
+use Rattle.plain_service.specs.Requests.{PlainRequest}
 use Rattle.ports_core.specs.declared.event.Event.{Event}
 use Rattle.ports_core.specs.declared.queue.QueuedRequest.{QueuedRequest}
 use Rattle.ports_core.specs.Effects.{Effect}

@@ -3,8 +3,8 @@ use Rattle.std.specs.Prelude.{◌≡◌, ◌≢◌, ◌⊎◌, ℕ, Bool, List, 
 use Rattle.mk_paths.specs.World.{World}
 use Rattle.ports_http.specs.Messages.{RequestMessage, ReplyMessage}
 use Rattle.ports_http.specs.Replies.{reply_text, store_failed, IsFixed}
-use Rattle.ports_plain.specs.Requests.{PlainRequest, plain_request}
-use Rattle.ports_plain.specs.Plain.{Served, plain}
+use Rattle.plain_service.specs.Requests.{PlainRequest, plain_request}
+use Rattle.plain_service.specs.Plain.{Served, plain}
 
 -- what a request asks of the plain service: its method, its target and its body
 abbrev pub plain_request_of : RequestMessage → PlainRequest

@@ -2,12 +2,12 @@
 use Rattle.std.specs.Prelude.{◌≡◌, ℕ, ◌+◌, ◌<◌, ◌≤◌, MatchBool, MatchOption, List, [], ◌∷◌, slice_get, Option, Some, None}
 use Rattle.turn_amounts.specs.declared.TheConstants.{MOST_SPENT}
 use Rattle.mk_paths.specs.World.{World}
-use Rattle.ports_index.specs.declared.spent.Spent.{Spent}
-use Rattle.ports_index.specs.Spent.{no_spending, spent_together, ChecksFew}
+use Rattle.port_index.specs.declared.spent.Spent.{Spent}
+use Rattle.port_index.specs.Spent.{no_spending, spent_together, ChecksFew}
 use Rattle.ports_http.specs.Messages.{RequestMessage, ReplyMessage}
-use Rattle.ports_plain.specs.Questions.{question_of}
-use Rattle.ports_plain.specs.AnswerCosts.{evaluations, cost, most_turns}
-use Rattle.ports_plain.specs.Spent.{SpendsFor}
+use Rattle.plain_service.specs.Questions.{question_of}
+use Rattle.plain_service.specs.AnswerCosts.{evaluations, cost, most_turns}
+use Rattle.plain_service.specs.Spent.{SpendsFor}
 use Rattle.ports_core.specs.declared.event.Event.{Event}
 use Rattle.ports_core.specs.declared.event.Event.TheVariants.{Open, Piece, End, Fault, Wrote, Turn}
 use Rattle.ports_core.specs.declared.event.Told.{Told}

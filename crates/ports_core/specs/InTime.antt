@@ -1,7 +1,7 @@
 -- Each request is told its reply within a number of its tenant's own turns.
 use Rattle.std.specs.Prelude.{◌≡◌, ℕ, ◌+◌, ◌^◌, ◌<◌, ◌==◌, List, [], ◌∷◌, ◌++◌, length, Some, if◌then◌else◌}
 use Rattle.mk_paths.specs.World.{World}
-use Rattle.ports_plain.specs.AnswerCosts.{most_turns}
+use Rattle.plain_service.specs.AnswerCosts.{most_turns}
 use Rattle.ports_core.specs.declared.event.Event.{Event}
 use Rattle.ports_core.specs.declared.event.Event.TheVariants.{Turn}
 use Rattle.ports_core.specs.declared.queue.QueuedRequest.{QueuedRequest}

@@ -2,11 +2,11 @@
 -- yet.
 use Rattle.std.specs.Prelude.{◌≡◌, ◌≢◌, ℕ, ◌+◌, List, slice_get, Option, Some, None, option_map, unwrap_or}
 use Rattle.std.specs.Option.{ForSome}
-use Rattle.ports_index.specs.declared.spent.Spent.{Spent}
-use Rattle.ports_index.specs.PathOutcomes.{counted}
+use Rattle.port_index.specs.declared.spent.Spent.{Spent}
+use Rattle.port_index.specs.PathOutcomes.{counted}
 use Rattle.ports_http.specs.Messages.{RequestMessage}
-use Rattle.ports_plain.specs.declared.questions.Question.{Question}
-use Rattle.ports_plain.specs.Questions.{question_of}
+use Rattle.plain_service.specs.declared.questions.Question.{Question}
+use Rattle.plain_service.specs.Questions.{question_of}
 use Rattle.ports_core.specs.declared.job.Job.{Job}
 use Rattle.ports_core.specs.declared.queue.QueuedRequest.{QueuedRequest}
 use Rattle.ports_core.specs.Answers.{plain_request_of}

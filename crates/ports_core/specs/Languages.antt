@@ -2,7 +2,7 @@
 use Rattle.std.specs.Prelude.{◌≡◌, ℕ, false, List, [], ◌∷◌, All}
 use Rattle.mk_text.specs.declared.profile.Profile.{Profile}
 use Rattle.mk_paths.specs.World.{World, profile_of}
-use Rattle.ports_plain.specs.Languages.{asks_profile}
+use Rattle.plain_service.specs.Languages.{asks_profile}
 use Rattle.ports_core.specs.declared.event.Event.{Event}
 use Rattle.ports_core.specs.declared.queue.QueuedRequest.{QueuedRequest}
 use Rattle.ports_core.specs.Answers.{plain_request_of, plain_answer}

@@ -3,7 +3,7 @@ ghost use Rattle.std.specs.Prelude.{◌≡◌, Some, None};
 ghost use Rattle.ports_core.specs.Tell.{CountsNone, spent_as_told};
 
 use ports_http::Reply;
-use ports_index::Spent;
+use port_index::Spent;
 use refusals::OutOfMemory;
 
 /// Something that happens to a service. Connections go by the number that they had when they opened,

@@ -7,7 +7,7 @@ ghost use Rattle.ports_core.specs.Isolation.{EachRunServesPlainly, EachTenantIsT
 ghost use Rattle.ports_core.specs.Languages.{EachStaysInItsProfile};
 ghost use Rattle.ports_core.specs.InTime.{EachRequestIsToldInTime, EachFirstHasTurnsLeft, EachRunIsToldInTime};
 
-use ports_plain::others_keep_the_profile;
+use plain_service::others_keep_the_profile;
 
 /// What an event does to the tenants' worlds and waiting requests. The opening or the loss of a connection
 /// changes nothing. Bytes that come or are written, or an end, add at most one request at the end of one

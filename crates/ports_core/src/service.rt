@@ -1,7 +1,7 @@
 //! The service, one event at a time.
 ghost use Rattle.std.specs.Prelude.{◌≡◌, ◌<◌, ◌↔◌, false, Bool, [], IsTrue, IfOk, IsErrOf, length, replicate};
 ghost use Rattle.refusals.specs.Refused.{refused};
-ghost use Rattle.ports_plain.specs.Outcomes.{IfMade};
+ghost use Rattle.plain_service.specs.Outcomes.{IfMade};
 ghost use Rattle.ports_core.specs.declared.service.NewFault.TheVariants.{Memory};
 ghost use Rattle.ports_core.specs.NewFault.{new_fault};
 

@@ -13,7 +13,7 @@ use crate::job::Job;
 use crate::keys::Config;
 use mk_paths::FilesFault;
 use ports_http::{Reply, Request};
-use ports_index::Spent;
+use port_index::Spent;
 use std::alloc::Global;
 
 /// The answer to a request.

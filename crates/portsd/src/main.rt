@@ -3,11 +3,11 @@
 //! the bytes that were sent.
 #![tactic(auto)]
 
-use ports_host::{Loopback, words_given};
-use ports_program::run_program;
+use portsd_host::{Loopback, words_given};
+use portsd_run::run_program;
 use std::io;
 use std::process::ExitCode;
-use tenant_worlds::StoredTenants;
+use stored_tenants::StoredTenants;
 
 fn main(rt: HostRuntime) -> ExitCode {
     let alloc = rt.alloc();

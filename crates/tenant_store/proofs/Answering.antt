@@ -13,11 +13,11 @@ use Rattle.sqlite.specs.declared.error.Error.{Error}
 use Rattle.sqlite.specs.State.{State, Shown, FailsToQuery}
 use Rattle.mk_text.specs.Profiles.{numbered_profile}
 use Rattle.mk_paths.specs.SearchPath.{trees_of}
-use Rattle.table_facts.specs.Filled.{bytes_in, number_in, has_key, entry_row, entries_of_rows}
-use Rattle.table_facts.specs.States.{IsSettled, Stays}
-use Rattle.table_facts.proofs.Ending.{if_ok_then}
-use Rattle.table_facts.proofs.Keyed.{ShowsEntries, row_found, of_key, passes_key, selects}
-use Rattle.table_facts.proofs.Statements.{AreSeen, seen as columns, query_ends}
+use Rattle.sql_facts.specs.Filled.{bytes_in, number_in, has_key, entry_row, entries_of_rows}
+use Rattle.sql_facts.specs.States.{IsSettled, Stays}
+use Rattle.sql_facts.proofs.Ending.{if_ok_then}
+use Rattle.sql_facts.proofs.Keyed.{ShowsEntries, row_found, of_key, passes_key, selects}
+use Rattle.sql_facts.proofs.Statements.{AreSeen, seen as columns, query_ends}
 use Rattle.tenant_store.specs.Holdings.{File, map_of}
 use Rattle.tenant_store.specs.Tables.{IsOneRow, HasStoreTables, file_layout, file_of, settings_of, held_in, store_schema}
 use Rattle.tenant_store.specs.Tables.{select_content, select_settings}

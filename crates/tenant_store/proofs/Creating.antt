@@ -8,9 +8,9 @@ use Rattle.sqlite.specs.State.{State}
 use Rattle.mk_paths.specs.World.{opening_world}
 use Rattle.sqlite_trees.specs.View.{IsShaped}
 use Rattle.sqlite_trees.specs.declared.store.Shape.TheVariants as Shapes
-use Rattle.table_facts.specs.States.{IsSettled, Ran}
-use Rattle.table_facts.proofs.Keyed.{none_filled, cast_null, cast_integer, pushed_rise}
-use Rattle.table_facts.proofs.Statements.{inserts}
+use Rattle.sql_facts.specs.States.{IsSettled, Ran}
+use Rattle.sql_facts.proofs.Keyed.{none_filled, cast_null, cast_integer, pushed_rise}
+use Rattle.sql_facts.proofs.Statements.{inserts}
 use Rattle.tenant_store.specs.Tables.{IsBare, IsOneRow, HoldsWorld, file_layout, file_of, settings_of, insert_settings, store_schema}
 use Rattle.tenant_store.proofs.Fixed.{first_settings, insert_settings_text, placed_settings_table, settings_place}
 use Rattle.tenant_store.proofs.Keeping.{holds}

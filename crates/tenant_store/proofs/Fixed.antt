@@ -8,10 +8,10 @@ use Rattle.sqlite_schema.specs.declared.command.Source.TheVariants.{Values}
 use Rattle.sqlite_tied.specs.Compute.{everything}
 use Rattle.sqlite.specs.Listing.{understood}
 use Rattle.sqlite.specs.State.{State}
-use Rattle.table_facts.specs.Tables.{no_schema}
-use Rattle.table_facts.proofs.Creating.{Defines}
-use Rattle.table_facts.proofs.Keyed.{IsMapAt, of_key}
-use Rattle.table_facts.proofs.Statements.{IsTableAt, Says, Queries, those_of}
+use Rattle.sql_facts.specs.Tables.{no_schema}
+use Rattle.sql_facts.proofs.Creating.{Defines}
+use Rattle.sql_facts.proofs.Keyed.{IsMapAt, of_key}
+use Rattle.sql_facts.proofs.Statements.{IsTableAt, Says, Queries, those_of}
 use Rattle.tenant_store.specs.Tables.{HasStoreTables, file_layout, store_schema, file_schema, file_table, settings_table, create_file}
 use Rattle.tenant_store.specs.Tables.{create_settings}
 use Rattle.tenant_store.specs.Tables.{insert_file, update_file, delete_file, select_content, insert_settings, update_settings}

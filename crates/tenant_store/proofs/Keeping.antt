@@ -8,7 +8,7 @@ use Rattle.sqlite.specs.State.{State}
 use Rattle.sqlite.specs.declared.error.Error.{Error}
 use Rattle.tenant_store.specs.Holdings.{Holdings, world_in}
 use Rattle.tenant_store.specs.Tables.{IsStoreAtRest, HasStoreTables, HoldsWorld, held_in, holdings_in, world_in_state}
-use Rattle.table_facts.specs.States.{IsSettled, Stays}
+use Rattle.sql_facts.specs.States.{IsSettled, Stays}
 use Rattle.tenant_store.specs.SettingsRows.{shown_settings, AreSettingsOf}
 use Rattle.tenant_store.specs.declared.queries.SettingsRow.{SettingsRow}
 

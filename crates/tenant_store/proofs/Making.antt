@@ -15,11 +15,11 @@ use Rattle.sqlite_schema.specs.declared.schema.Kind.TheVariants as kind
 use Rattle.sqlite_trees.specs.Tree.{rowid}
 use Rattle.sqlite_rules.specs.Cast.{cast, cast_row}
 use Rattle.sqlite.specs.State.{State}
-use Rattle.table_facts.specs.Filled.{AreFilled, EntriesByKey, entries_of_rows}
-use Rattle.table_facts.specs.States.{Ran}
-use Rattle.table_facts.proofs.Keyed.{IsMapAt, Makes, cast_null, cast_integer, inserts_entry, updates_at, deletes_at}
-use Rattle.table_facts.proofs.Rows.{mapped_rise}
-use Rattle.table_facts.proofs.Statements.{updates}
+use Rattle.sql_facts.specs.Filled.{AreFilled, EntriesByKey, entries_of_rows}
+use Rattle.sql_facts.specs.States.{Ran}
+use Rattle.sql_facts.proofs.Keyed.{IsMapAt, Makes, cast_null, cast_integer, inserts_entry, updates_at, deletes_at}
+use Rattle.sql_facts.proofs.Rows.{mapped_rise}
+use Rattle.sql_facts.proofs.Statements.{updates}
 use Rattle.tenant_store.specs.Holdings.{File, map_of}
 use Rattle.tenant_store.specs.Tables.{IsSettingsRow, IsOneRow, HoldsWorld, IsStoreAtRest, file_layout, file_of, settings_of, file_table, store_schema}
 use Rattle.tenant_store.specs.Tables.{world_in_state}

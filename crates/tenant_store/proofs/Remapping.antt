@@ -9,7 +9,7 @@ use Rattle.std.proofs.lemmas.Map.Text.{is_eq-slice_cmp}
 use Rattle.std.proofs.lemmas.Slice.Eq.{bytes_eq-Decides}
 use Rattle.general_facts.specs.Maps.{same_map}
 use Rattle.general_facts.specs.Texts.{bytes_eq-sym}
-use Rattle.table_facts.specs.Filled.{EntriesByKey, changed_at, entries_of_rows, has_key}
+use Rattle.sql_facts.specs.Filled.{EntriesByKey, changed_at, entries_of_rows, has_key}
 use Rattle.sqlite_value.specs.Order.{Row}
 use Rattle.tenant_store.specs.Holdings.{File, map_of}
 use Rattle.tenant_store.specs.Tables.{file_layout, file_of}

@@ -18,9 +18,9 @@ use Rattle.sqlite.specs.Effect.{Database}
 use Rattle.sqlite.specs.Held.{Held}
 use Rattle.sqlite.specs.State.{State}
 use Rattle.sqlite_trees.specs.declared.memory.MemStore.{MemStore}
-use Rattle.table_facts.specs.Tables.{filled, keyed, no_schema}
-use Rattle.table_facts.specs.Filled.{Layout, AreFilled, number_in, bytes_in}
-use Rattle.table_facts.specs.States.{IsSettled, state_of}
+use Rattle.sql_facts.specs.Tables.{filled, keyed, no_schema}
+use Rattle.sql_facts.specs.Filled.{Layout, AreFilled, number_in, bytes_in}
+use Rattle.sql_facts.specs.States.{IsSettled, state_of}
 use Rattle.tenant_store.specs.Holdings.{File, Holdings, world_in}
 use Rattle.sqlite_schema.specs.declared.schema.Table.{Table}
 use Rattle.sqlite_schema.specs.declared.schema.Schema.{Schema}

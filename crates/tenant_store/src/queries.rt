@@ -1,6 +1,6 @@
 // The statements that read.
 ghost use Rattle.std.specs.Prelude.{◌≡◌, IfOk};
-ghost use Rattle.table_facts.specs.States.{state_of};
+ghost use Rattle.sql_facts.specs.States.{state_of};
 ghost use Rattle.tenant_store.specs.Tables.{IsStoreAtRest, ShowSettings, AreSettings};
 ghost use Rattle.tenant_store.specs.Tables.{holdings_of, conn_world, ShowsContent};
 ghost use Rattle.tenant_store.specs.SettingsRows.{AreSettingsOf, shown_settings};

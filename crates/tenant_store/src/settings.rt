@@ -3,7 +3,7 @@ ghost use Rattle.std.specs.Prelude.{◌≡◌, IfOk, OnOk, OnErr, string_bytes};
 ghost use Rattle.mk_paths.specs.SearchPath.{IsSearchPath, trees_of};
 ghost use Rattle.mk_paths.specs.World.{with_search_path, with_profile};
 ghost use Rattle.tenant_store.specs.Tables.{IsStoreAtRest, conn_world, LeavesWorld};
-ghost use Rattle.table_facts.specs.States.{state_of};
+ghost use Rattle.sql_facts.specs.States.{state_of};
 ghost use Rattle.tenant_store.specs.SettingsRows.{JoinsTrees};
 
 use crate::queries::{SettingsRow, settings_row};

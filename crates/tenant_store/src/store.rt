@@ -5,7 +5,7 @@ ghost use Rattle.mk_paths.specs.SearchPath.{IsSearchPath, trees_of};
 ghost use Rattle.mk_paths.specs.World.{files_in, opening_world, with_file, without_file};
 ghost use Rattle.mk_paths.specs.World.{search_path_of, profile_of, with_search_path, with_profile};
 ghost use Rattle.tenant_store.specs.Tables.{IsStoreAtRest, conn_world};
-ghost use Rattle.table_facts.specs.States.{state_of};
+ghost use Rattle.sql_facts.specs.States.{state_of};
 ghost use Rattle.tenant_store.specs.Faults.{IsFullWithFile};
 ghost use Rattle.tenant_store.specs.Answers.{GivesContent, FitsWithFile, TellsWhetherThere};
 
@@ -25,7 +25,7 @@ use std::alloc::{AllocError, Global};
 use std::collections::BTreeMap;
 use std::marker::Model;
 use std::num::NonZeroUsize;
-use table_facts::Sqlite;
+use sql_facts::Sqlite;
 
 /// The files, the search path and the profile of one tenant, in a database in memory of its own. Clauses see the world
 /// that they are: the files as a map of names to contents, and the settings.

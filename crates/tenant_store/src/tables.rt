@@ -2,12 +2,12 @@
 ghost use Rattle.std.specs.Prelude.{◌≡◌, [], IfOk, OnOk, false};
 ghost use Rattle.mk_paths.specs.World.{opening_world};
 ghost use Rattle.tenant_store.specs.Tables.{HoldsWorld, IsBare, file_schema};
-ghost use Rattle.table_facts.specs.Tables.{no_schema};
-ghost use Rattle.table_facts.specs.States.{IsSettled, state_of};
+ghost use Rattle.sql_facts.specs.Tables.{no_schema};
+ghost use Rattle.sql_facts.specs.States.{IsSettled, state_of};
 
 use sqlite::{Connection, Error, MemStore};
 use std::alloc::Global;
-use table_facts::run_alone;
+use sql_facts::run_alone;
 
 fn create_files(conn: &mut Connection<MemStore>) -> Result<(), Error>
     requires autocommit { (state_of conn.old).in_transaction ≡ false }

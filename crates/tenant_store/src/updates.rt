@@ -4,12 +4,12 @@ ghost use Rattle.std.specs.FinMap.{get, contains_key};
 ghost use Rattle.mk_paths.specs.SearchPath.{IsSearchPath, trees_of};
 ghost use Rattle.mk_paths.specs.World.{files_in, without_file};
 ghost use Rattle.tenant_store.specs.SettingsRows.{SetsSettings};
-ghost use Rattle.table_facts.specs.States.{state_of};
+ghost use Rattle.sql_facts.specs.States.{state_of};
 ghost use Rattle.tenant_store.specs.Tables.{IsStoreAtRest, conn_world, LeavesWorld, StoresFile};
 
 use crate::queries::SettingsRow;
 use sqlite::{Connection, Error, MemStore, params};
-use table_facts::run_alone;
+use sql_facts::run_alone;
 
 fn insert_file(conn: &mut Connection<MemStore>, name: &str, content: &[u8]) -> Result<(), Error>
     requires kept { IsStoreAtRest (state_of conn.old) }

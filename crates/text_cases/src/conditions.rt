@@ -1,6 +1,6 @@
 //! The trees of conditions.
 use case_lines::{Answer, Trouble, one_text};
-use cond_grammar::{
+use mk_cond_tree::{
     Call, Comparison, Condition, ConditionError, Conjunction, Side, Term, read_condition,
 };
 use mk_text::Span;

@@ -3,7 +3,7 @@ ghost use Rattle.std.specs.Prelude.{ℕ};
 ghost use Rattle.ports_serve.specs.Calls.{Call};
 
 use case_lines::Trouble;
-use ports_host::{Loopback, Sockets};
+use portsd_host::{Loopback, Sockets};
 use ports_serve::{Listen, Outcome, Wire};
 use std::alloc::Global;
 use std::net::{Net, SocketAddr};

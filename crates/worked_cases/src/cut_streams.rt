@@ -3,9 +3,9 @@ use crate::served::{config, happen};
 use crate::service::service_of_one;
 use case_lines::{Answer, Trouble};
 use ports_core::{Event, Step, Tell, Told, Transcript, replay};
-use ports_script::read_script;
+use portsd_text::read_script;
 use std::alloc::Global;
-use tenant_worlds::StoredTenants;
+use stored_tenants::StoredTenants;
 
 /// More turns and writes than the requests of a case take.
 const MOST_TURNS: usize = 20;

@@ -21,7 +21,7 @@ mod turns;
 mod visitors;
 
 use case_lines::{Bench, Cases};
-use ports_host::words_given;
+use portsd_host::words_given;
 use std::{fs, io};
 use subjects::Subjects;
 

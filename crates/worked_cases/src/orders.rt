@@ -2,7 +2,7 @@
 use crate::served::{config, happen};
 use case_lines::{Answer, Trouble, as_number};
 use ports_core::{Event, Transcript, replay};
-use ports_script::{Script, read_script};
+use portsd_text::{Script, read_script};
 use std::alloc::Global;
 
 /// The most turns of both tenants together.

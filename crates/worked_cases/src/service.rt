@@ -11,12 +11,12 @@ use ports_core::{Config, Service, Tenants, Transcript, replay};
 use ports_http::{
     Content, HeadFault, Method, Reply, Request, StreamEnd, decode, write_fixed, write_reply,
 };
-use ports_plain::{Change, Plain, Prepared};
-use ports_program::run_command;
-use ports_script::read_script;
+use plain_service::{Change, Plain, Prepared};
+use portsd_run::run_command;
+use portsd_text::read_script;
 use std::alloc::{AllocError, Global};
 use std::fmt::Write;
-use tenant_worlds::StoredTenants;
+use stored_tenants::StoredTenants;
 use turn_amounts::{MOST_CHECKS, TURN_UNITS};
 
 /// The service over worlds in one store.

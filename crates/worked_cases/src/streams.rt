@@ -5,11 +5,11 @@ use crate::service::{config_of_one, status_answer};
 use case_lines::{Answer, FailingReader, FailingWriter, Ran, Trouble, as_number, no_memory};
 use ports_core::{Refused, Step, Tell, Told};
 use ports_http::Reply;
-use ports_program::{Serving, run_config, run_serving};
-use ports_script::{ScriptFault, read_script, transcript_text};
+use portsd_run::{Serving, run_config, run_serving};
+use portsd_text::{ScriptFault, read_script, transcript_text};
 use refusals::OutOfMemory;
 use std::alloc::Global;
-use tenant_worlds::StoredTenants;
+use stored_tenants::StoredTenants;
 
 /// `input SCRIPT failing after N`: the fault of a script whose input gives five bytes at a read and fails
 /// after so many reads, or how many events were read. Each read is interrupted once before it is answered.

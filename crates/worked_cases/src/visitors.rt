@@ -3,7 +3,7 @@ use crate::clients::{Clients, WithClients, listening};
 use crate::service::service_of_one;
 use case_lines::{Answer, Trouble, as_number};
 use mio::net::TcpStream;
-use ports_host::Loopback;
+use portsd_host::Loopback;
 use ports_serve::{Listen, serve};
 use std::alloc::Global;
 use std::io::{Read, Write};

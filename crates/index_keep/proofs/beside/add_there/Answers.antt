@@ -2,7 +2,7 @@
 use Rattle.std.proofs.Common.{◌≡◌, ◌∙◌, ap, subst, sym, ◌||◌, ◌&&◌, ◌∷◌, [], map, string_bytes}
 use Rattle.mk_paths.specs.FilesView.{view_world}
 use Rattle.mk_paths.specs.World.{World, FileMap}
-use Rattle.ports_index.specs.FilledRows.{is_one_of}
+use Rattle.port_index.specs.FilledRows.{is_one_of}
 use Rattle.read_trace.specs.Recorder.{view_of}
 use Rattle.index_keep.specs.Beside.{is_there_at}
 use Rattle.index_keep.proofs.ListLemmas.{added-more, map-append}

@@ -1,7 +1,7 @@
 -- Those of the paths up to here are added that are there. The files are the same.
 use Rattle.std.proofs.Common.{◌≡◌, ◌&&◌, ◌||◌, ℕ, List, None, map, string_bytes}
 use Rattle.mk_paths.specs.FilesView.{view_world}
-use Rattle.ports_index.specs.FilledRows.{is_one_of}
+use Rattle.port_index.specs.FilledRows.{is_one_of}
 use Rattle.read_trace.specs.Recorder.{view_of}
 use Rattle.index_keep.specs.Beside.{is_there_at}
 use Rattle.index_keep.specs.Right.{LeavesFiles}

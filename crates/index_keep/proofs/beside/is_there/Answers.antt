@@ -2,7 +2,7 @@
 use Rattle.std.proofs.Common.{◌∙◌, ap, sym, ◌||◌, is_some}
 use Rattle.mk_paths.specs.FilesView.{view_world}
 use Rattle.mk_paths.specs.World.{World}
-use Rattle.ports_index.specs.Efforts.{has_makefile}
+use Rattle.port_index.specs.Efforts.{has_makefile}
 use Rattle.read_trace.specs.Recorder.{view_of}
 use Rattle.index_keep.proofs.BesideLemmas.{found-some}
 use Rattle.index_keep.proofs.ListLemmas.{some-map}

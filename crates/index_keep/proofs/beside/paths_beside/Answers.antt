@@ -7,10 +7,10 @@ use Rattle.text_parts.specs.Ordered.{among-in_order, in_order-again}
 use Rattle.mk_paths.specs.FilesView.{view_world}
 use Rattle.mk_paths.specs.World.{World, FileMap}
 use Rattle.port_deps.specs.ItemText.{has_comma}
-use Rattle.ports_index.specs.Dependencies.{targets_in}
-use Rattle.ports_index.specs.FilledRows.{is_one_of}
-use Rattle.ports_index.specs.RowLaws.{is_target_among}
-use Rattle.ports_index.specs.Seen.{entries_in, known_in, known_row}
+use Rattle.port_index.specs.Dependencies.{targets_in}
+use Rattle.port_index.specs.FilledRows.{is_one_of}
+use Rattle.port_index.specs.RowLaws.{is_target_among}
+use Rattle.port_index.specs.Seen.{entries_in, known_in, known_row}
 use Rattle.read_trace.specs.Recorder.{view_of}
 use Rattle.index_keep.specs.Beside.{is_there_at}
 use Rattle.index_keep.proofs.BesideLemmas.{added-there, one-filter, target-next}

@@ -2,10 +2,10 @@
 use Rattle.std.proofs.Common.{◌≡◌, ◌&&◌, ℕ, List, None, map, take, string_bytes}
 use Rattle.mk_paths.specs.FilesView.{view_world}
 use Rattle.port_deps.specs.ItemText.{has_comma}
-use Rattle.ports_index.specs.FilledRows.{is_one_of}
-use Rattle.ports_index.specs.Finders.{IsFinderOf}
-use Rattle.ports_index.specs.RowLaws.{is_target_among}
-use Rattle.ports_index.specs.Seen.{entries_in, known_in}
+use Rattle.port_index.specs.FilledRows.{is_one_of}
+use Rattle.port_index.specs.Finders.{IsFinderOf}
+use Rattle.port_index.specs.RowLaws.{is_target_among}
+use Rattle.port_index.specs.Seen.{entries_in, known_in}
 use Rattle.read_trace.specs.Recorder.{view_of}
 use Rattle.index_keep.specs.Beside.{is_there_at}
 use Rattle.index_keep.specs.Right.{LeavesFiles}

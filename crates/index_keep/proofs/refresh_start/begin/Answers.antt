@@ -1,6 +1,6 @@
 use Rattle.std.proofs.Common.{◌∙◌, ap, sym, map, string_bytes, if◌then◌else◌, option_map}
 use Rattle.std.specs.BTreeSet.{contains_text}
-use Rattle.ports_index.specs.FilledRows.{is_one_of}
+use Rattle.port_index.specs.FilledRows.{is_one_of}
 use Rattle.index_store.specs.Entries.{marked}
 use Rattle.index_keep.proofs.ShownLemmas.{fresh-shown, shown-marked}
 use Rattle.index_keep.proofs.refresh_start.begin.Goals as goal

@@ -1,8 +1,8 @@
 -- What is left of the rows says what is fresh, and the lists of before may be kept if the others are of makefiles.
 use Rattle.std.proofs.Common.{◌∙◌, ap, Bool, ℕ, List, None, if◌then◌else◌, map, string_bytes}
 use Rattle.std.specs.BTreeSet.{contains_text}
-use Rattle.ports_index.specs.FilledRows.{is_one_of}
-use Rattle.ports_index.specs.Seen.{said_in}
+use Rattle.port_index.specs.FilledRows.{is_one_of}
+use Rattle.port_index.specs.Seen.{said_in}
 use Rattle.index_keep.proofs.LastLemmas.{left-fresh, recalls-begun}
 use Rattle.index_keep.proofs.refresh_start.begin_over.Goals as goal
 

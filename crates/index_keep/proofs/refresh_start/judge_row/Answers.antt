@@ -2,7 +2,7 @@
 use Rattle.std.proofs.Common.{◌∙◌, sym, ap, Bool, if◌then◌else◌, string_bytes}
 use Rattle.std.specs.BTreeSet.{contains_text}
 use Rattle.std.specs.List.{list_any}
-use Rattle.row_text.specs.Seen.{kept_row_seen}
+use Rattle.index_row.specs.Seen.{kept_row_seen}
 use Rattle.index_keep.specs.Shown.{said_by}
 use Rattle.index_keep.specs.Judgement.{Fresh, Outdated}
 use Rattle.index_keep.proofs.ListLemmas.{list_any-map}

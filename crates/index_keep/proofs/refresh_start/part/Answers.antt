@@ -1,8 +1,8 @@
 -- The row of the next path is taken, if it has one.
 use Rattle.std.proofs.Common.{◌≡◌, ◌∙◌, ap, sym, refl, ℕ, List, Bool, true, false, ◌||◌, Option, Some, None, if◌then◌else◌, map, option_map, take, string_bytes}
 use Rattle.std.specs.Str.{bytes_eq}
-use Rattle.ports_index.specs.FilledRows.{is_one_of}
-use Rattle.ports_index.specs.Seen.{Said, known_seen, said_in}
+use Rattle.port_index.specs.FilledRows.{is_one_of}
+use Rattle.port_index.specs.Seen.{Said, known_seen, said_in}
 use Rattle.index_keep.proofs.LastLemmas.{taken-none, taken-put}
 use Rattle.index_keep.proofs.ListLemmas.{one_of-more}
 use Rattle.index_keep.proofs.refresh_start.part.Goals as goal

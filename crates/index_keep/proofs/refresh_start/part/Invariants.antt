@@ -1,7 +1,7 @@
 -- The rows of the paths up to here are taken, and the others are left.
 use Rattle.std.proofs.Common.{◌≡◌, ℕ, List, None, if◌then◌else◌, map, take, string_bytes}
-use Rattle.ports_index.specs.FilledRows.{is_one_of}
-use Rattle.ports_index.specs.Seen.{said_in}
+use Rattle.port_index.specs.FilledRows.{is_one_of}
+use Rattle.port_index.specs.Seen.{said_in}
 use Rattle.index_keep.proofs.refresh_start.part.Given as goal
 
 abbrev pub invariant-loop-path : goal.invariant-loop-path

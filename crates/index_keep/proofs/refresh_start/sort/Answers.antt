@@ -1,7 +1,7 @@
 -- One row more is sorted.
 use Rattle.std.proofs.Common.{◌≡◌, ◌∙◌, ap, sym, append_assoc, ◌++◌, ◌∷◌, [], map, string_bytes}
 use Rattle.std.specs.BTreeSet.{contains_text}
-use Rattle.ports_index.specs.Seen.{said_in}
+use Rattle.port_index.specs.Seen.{said_in}
 use Rattle.index_keep.proofs.SortLemmas.{row-stored, KnowsRows-next, ListsOutdated-next}
 use Rattle.index_keep.proofs.refresh_start.sort.Goals as goal
 

@@ -1,7 +1,7 @@
 -- The rows so far are sorted, and the others are left.
 use Rattle.std.proofs.Common.{◌≡◌, ◌++◌, map, string_bytes}
 use Rattle.std.specs.BTreeSet.{contains_text}
-use Rattle.ports_index.specs.Seen.{said_in}
+use Rattle.port_index.specs.Seen.{said_in}
 use Rattle.index_store.specs.Entries.{Entries, AreRowsOf, stored_seen}
 use Rattle.index_keep.proofs.SortLemmas.{KnowsRows, ListsOutdated}
 use Rattle.index_keep.proofs.refresh_start.sort.Given as goal

@@ -1,8 +1,8 @@
 -- The row of the next path is taken out too.
 use Rattle.std.proofs.Common.{◌≡◌, ◌∙◌, ap, sym, Bool, true, false, ◌||◌, refl, Option, None, if◌then◌else◌, map, take, string_bytes}
 use Rattle.std.specs.Str.{bytes_eq}
-use Rattle.ports_index.specs.FilledRows.{is_one_of}
-use Rattle.ports_index.specs.Seen.{Said, said_in}
+use Rattle.port_index.specs.FilledRows.{is_one_of}
+use Rattle.port_index.specs.Seen.{Said, said_in}
 use Rattle.index_keep.proofs.ListLemmas.{one_of-more}
 use Rattle.index_keep.proofs.refresh_start.without.Goals as goal
 

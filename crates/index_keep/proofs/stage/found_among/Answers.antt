@@ -1,7 +1,7 @@
 -- The next path is among the others, or it isn't.
 use Rattle.std.proofs.Common.{◌≡◌, ◌∙◌, ap, sym, Bool, ◌∷◌, ◌++◌, [], map, String, Global, string_bytes}
 use Rattle.std.specs.Prelude.{Vec}
-use Rattle.ports_index.specs.FilledRows.{is_one_of}
+use Rattle.port_index.specs.FilledRows.{is_one_of}
 use Rattle.index_keep.proofs.ListLemmas.{chosen-next, map-append}
 use Rattle.index_keep.proofs.stage.found_among.Goals as goal
 use Rattle.index_keep.proofs.stage.found_among.Goals.{then-is_found_in+in_ok-from_str+in_ok-push, else-is_found_in}

@@ -1,8 +1,8 @@
 -- The next path has no row, or it has one.
 use Rattle.std.proofs.Common.{◌≡◌, ◌∙◌, ap, sym, ℕ, List, Bool, ◌∷◌, ◌++◌, [], is_none, map, String, Global, string_bytes}
 use Rattle.std.specs.Prelude.{Vec}
-use Rattle.ports_index.specs.FilledRows.{is_one_of}
-use Rattle.ports_index.specs.Seen.{entries_in}
+use Rattle.port_index.specs.FilledRows.{is_one_of}
+use Rattle.port_index.specs.Seen.{entries_in}
 use Rattle.index_keep.proofs.ListLemmas.{chosen-next, map-append, none-map, none-not}
 use Rattle.index_keep.proofs.stage.lacking_among.Goals as goal
 use Rattle.index_keep.proofs.stage.lacking_among.Goals.{then-is_none+in_ok-from_str+in_ok-push, else-is_none}

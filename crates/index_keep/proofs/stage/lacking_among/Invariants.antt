@@ -1,8 +1,8 @@
 -- Those so far are those of the paths up to here that have no row.
 use Rattle.std.proofs.Common.{◌≡◌, ◌&&◌, ℕ, List, is_none, map, take, string_bytes}
-use Rattle.ports_index.specs.FilledRows.{is_one_of}
-use Rattle.ports_index.specs.Finders.{IsFinderOf}
-use Rattle.ports_index.specs.Seen.{entries_in}
+use Rattle.port_index.specs.FilledRows.{is_one_of}
+use Rattle.port_index.specs.Finders.{IsFinderOf}
+use Rattle.port_index.specs.Seen.{entries_in}
 use Rattle.index_keep.proofs.stage.lacking_among.Given as goal
 
 abbrev pub invariant-loop-path : goal.invariant-loop-path

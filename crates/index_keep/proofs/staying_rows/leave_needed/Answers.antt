@@ -1,6 +1,6 @@
 -- The fresh rows of needed paths are left.
 use Rattle.std.proofs.Common.{◌≡◌, ◌&&◌, not, if◌then◌else◌, subst, None, is_some, IfOk, OnOk, List, ℕ, String, Global, map, string_bytes}
-use Rattle.ports_index.specs.FilledRows.{is_one_of}
+use Rattle.port_index.specs.FilledRows.{is_one_of}
 use Rattle.index_keep.specs.Shown.{no_name, shown}
 use Rattle.index_keep.specs.Walk.{AreNeededBeside, HasOrder, KnowsBeside, row_stays}
 use Rattle.index_keep.proofs.EndLemmas.{end-order, leaves-alone, leaves-taken}

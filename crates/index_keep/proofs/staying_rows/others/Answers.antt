@@ -1,6 +1,6 @@
 -- The next path is kept, or is one of the others.
 use Rattle.std.proofs.Common.{◌≡◌, ◌∙◌, ap, sym, not, ◌&&◌, true, false, map, string_bytes, ◌∷◌, []}
-use Rattle.ports_index.specs.FilledRows.{is_one_of}
+use Rattle.port_index.specs.FilledRows.{is_one_of}
 use Rattle.index_keep.specs.Walk.{row_stays}
 use Rattle.index_keep.proofs.ListLemmas.{chosen-more, map-append}
 use Rattle.index_keep.proofs.staying_rows.others.Goals as goal

@@ -1,6 +1,6 @@
 -- The others so far are those of the paths up to here.
 use Rattle.std.proofs.Common.{◌≡◌, ℕ, List, ◌&&◌, not, map, string_bytes}
-use Rattle.ports_index.specs.FilledRows.{is_one_of}
+use Rattle.port_index.specs.FilledRows.{is_one_of}
 use Rattle.index_keep.specs.StayingRows.{FindsStaying}
 use Rattle.index_keep.specs.Walk.{HasOrder, row_stays}
 use Rattle.index_keep.proofs.staying_rows.others.Given as goal

@@ -1,6 +1,6 @@
 use Rattle.std.proofs.Common.{◌∙◌, ap, subst, sym, string_bytes}
-use Rattle.row_text.specs.Rows.{row_of}
-use Rattle.row_text.specs.Seen.{kept_row_seen}
+use Rattle.index_row.specs.Rows.{row_of}
+use Rattle.index_row.specs.Seen.{kept_row_seen}
 use Rattle.index_store.specs.Entries.{PutsRow}
 use Rattle.index_keep.specs.Shown.{said_by}
 use Rattle.index_keep.specs.Walk.{HasRowMore}

@@ -5,7 +5,7 @@ use Rattle.std.specs.BTreeSet.{contains_text}
 use Rattle.mk_paths.specs.FilesView.{view_world}
 use Rattle.mk_paths.specs.World.{World}
 use Rattle.read_trace.specs.Recorder.{view_of}
-use Rattle.ports_index.specs.FilledRows.{is_one_of}
+use Rattle.port_index.specs.FilledRows.{is_one_of}
 use Rattle.index_keep.specs.Last.{IsHeld, RecallsLists, Serves}
 use Rattle.index_keep.specs.Shown.{ShownRows, ShowsSame, no_name, shown}
 use Rattle.index_keep.proofs.LastLemmas.{stored-asked}

@@ -1,6 +1,6 @@
 -- Other directories are those of the files.
 use Rattle.std.proofs.Common.{◌∙◌, ap, sym}
-use Rattle.ports_index.specs.TreePaths as tree_paths
+use Rattle.port_index.specs.TreePaths as tree_paths
 use Rattle.index_keep.proofs.walk.first_stage.Goals as goal
 
 pub returns-clause-stage : goal.returns-clause-stage

@@ -1,8 +1,8 @@
 -- The directories of before are kept, and its lists may be.
 use Rattle.std.proofs.Common.{◌≡◌, ◌∙◌, ap, refl, subst, sym, ◌&&◌, ℕ, List, true, map, string_bytes}
-use Rattle.ports_index.specs.FilledRows.{is_one_of}
-use Rattle.ports_index.specs.TreePaths.{AreInOrder, directories}
-use Rattle.ports_index.specs.Seen.{entries_in}
+use Rattle.port_index.specs.FilledRows.{is_one_of}
+use Rattle.port_index.specs.TreePaths.{AreInOrder, directories}
+use Rattle.port_index.specs.Seen.{entries_in}
 use Rattle.mk_paths.specs.World.{files_in}
 use Rattle.index_keep.specs.Last.{RecallsLists, led_to, listed_in, paths_in}
 use Rattle.index_keep.specs.declared.stage.Stage.{Stage}

@@ -1,6 +1,6 @@
 -- The paths beside the listed ones: the outdated ones, or those that the rows of listed paths name.
-use Rattle.ports_index.specs.FilledRows.{is_one_of}
-use Rattle.ports_index.specs.Seen.{entries_in}
+use Rattle.port_index.specs.FilledRows.{is_one_of}
+use Rattle.port_index.specs.Seen.{entries_in}
 use Rattle.std.proofs.Common.{◌&&◌, is_none, List, ℕ, ◌∙◌, ap, subst, IfSome, map, string_bytes}
 use Rattle.mk_paths.specs.FilesView.{view_world}
 use Rattle.mk_paths.specs.World.{World}

@@ -1,9 +1,9 @@
 -- The listed paths of before are those that the rows say, or they are made anew.
-use Rattle.ports_index.specs.Efforts.{decided}
+use Rattle.port_index.specs.Efforts.{decided}
 use Rattle.std.proofs.Common.{is_some, ◌≡◌, ◌∙◌, ap, refl, subst, sym, IfSome, ◌&&◌, List, ℕ, true, is_none, map, string_bytes}
-use Rattle.ports_index.specs.FilledRows.{is_one_of}
-use Rattle.ports_index.specs.TreePaths.{AreInOrder, listed_from}
-use Rattle.ports_index.specs.Seen.{entries_in, known_in}
+use Rattle.port_index.specs.FilledRows.{is_one_of}
+use Rattle.port_index.specs.TreePaths.{AreInOrder, listed_from}
+use Rattle.port_index.specs.Seen.{entries_in, known_in}
 use Rattle.index_keep.specs.Last.{Recalls, RecallsLists, led_to, listed_in, paths_in}
 use Rattle.index_keep.specs.Walk.{directories_in, paths_of}
 use Rattle.index_keep.specs.declared.stage.Stage.{Stage}

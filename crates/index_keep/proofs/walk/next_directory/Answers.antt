@@ -3,8 +3,8 @@ use Rattle.std.proofs.Common.{◌≡◌, ap, refl, subst, sym, IfOk}
 use Rattle.mk_paths.specs.FilesView.{view_world}
 use Rattle.mk_paths.specs.World.{World, FileMap, files_in}
 use Rattle.read_trace.specs.Recorder.{view_of}
-use Rattle.ports_index.specs.TreePaths.{directories}
-use Rattle.ports_index.specs.Seen.{entries_in}
+use Rattle.port_index.specs.TreePaths.{directories}
+use Rattle.port_index.specs.Seen.{entries_in}
 use Rattle.index_keep.specs.Right.{AreDecided}
 use Rattle.index_keep.specs.Shown.{fresh}
 use Rattle.index_keep.specs.Walk.{HasDirectories, IsDirectoryStage, IsNext, IsOnTheWay, ListsPaths, PassesStage}

@@ -3,7 +3,7 @@ use Rattle.std.proofs.Common.{◌≡◌, ◌∙◌, ap, refl, subst, sym, IfOk}
 use Rattle.mk_paths.specs.FilesView.{view_world}
 use Rattle.mk_paths.specs.World.{World, FileMap}
 use Rattle.read_trace.specs.Recorder.{view_of}
-use Rattle.ports_index.specs.Index.{listed_paths}
+use Rattle.port_index.specs.Index.{listed_paths}
 use Rattle.index_keep.specs.Walk.{HasListed, IsLastStage, IsListedStage, IsNext, IsOnTheWay, PassesStage}
 use Rattle.index_keep.specs.declared.walk.ListedStage.{ListedStage}
 use Rattle.index_keep.specs.declared.stage.Stage.{Stage}

@@ -3,7 +3,7 @@ use Rattle.std.proofs.Common.{subst, sym}
 use Rattle.mk_paths.specs.FilesView.{view_world}
 use Rattle.mk_paths.specs.World.{World}
 use Rattle.read_trace.specs.Recorder.{view_of}
-use Rattle.ports_index.specs.Index.{needed_paths}
+use Rattle.port_index.specs.Index.{needed_paths}
 use Rattle.index_keep.specs.Walk.{IsLastStage, PassesStage}
 use Rattle.index_keep.specs.declared.stage.Stage.{Stage}
 use Rattle.index_keep.proofs.WalkLemmas.{all-decided, lacking-at, last-at, passed-known}

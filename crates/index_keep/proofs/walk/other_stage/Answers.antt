@@ -1,8 +1,8 @@
 -- It is known of the directories with a row what they lead to.
 use Rattle.std.proofs.Common.{◌∙◌, ap, refl, subst, sym, ◌&&◌, List, ℕ, is_none, map, string_bytes}
-use Rattle.ports_index.specs.FilledRows.{is_one_of}
-use Rattle.ports_index.specs.TreePaths.{directories}
-use Rattle.ports_index.specs.Seen.{entries_in}
+use Rattle.port_index.specs.FilledRows.{is_one_of}
+use Rattle.port_index.specs.TreePaths.{directories}
+use Rattle.port_index.specs.Seen.{entries_in}
 use Rattle.mk_paths.specs.World.{files_in}
 use Rattle.index_keep.specs.Shown.{fresh}
 use Rattle.index_keep.specs.Walk.{IsStage}

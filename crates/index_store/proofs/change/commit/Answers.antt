@@ -3,8 +3,8 @@ use Rattle.std.proofs.Common.{◌≡◌, ◌∙◌, ap, subst, sym, refl, rules,
 use Rattle.sqlite_trees.specs.declared.memory.MemStore.{MemStore}
 use Rattle.sqlite.specs.Held.{Held}
 use Rattle.sqlite.proofs.Callers.{memory_is_clean}
-use Rattle.table_facts.specs.States.{Stays, state_of}
-use Rattle.table_facts.proofs.Ending.{rolled_back, on_error, commits, commit_fails}
+use Rattle.sql_facts.specs.States.{Stays, state_of}
+use Rattle.sql_facts.proofs.Ending.{rolled_back, on_error, commits, commit_fails}
 use Rattle.index_store.specs.PortTable.{Rows, Holds, HoldsInside, rows_of}
 use Rattle.index_store.specs.Marks.{IsAllowedChange, rows_after}
 use Rattle.index_store.proofs.Keeping.{commit_holds}

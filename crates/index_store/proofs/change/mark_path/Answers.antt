@@ -1,6 +1,6 @@
 -- The one table, and then the other.
-use Rattle.table_facts.specs.States.{state_of}
-use Rattle.table_facts.proofs.Ending.{ok_then}
+use Rattle.sql_facts.specs.States.{state_of}
+use Rattle.sql_facts.proofs.Ending.{ok_then}
 use Rattle.index_store.specs.Marks.{mark_number}
 use Rattle.index_store.specs.PortTable.{rows_of, marked_at}
 use Rattle.index_store.proofs.Composing.{both_changed, one_changed, none_marked}

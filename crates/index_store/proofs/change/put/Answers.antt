@@ -1,8 +1,8 @@
 -- The row is put, and that of the release before goes.
 use Rattle.std.proofs.Common.{◌∙◌, ap, sym, refl, Some}
 use Rattle.mk_text.specs.Profiles.{profile_number}
-use Rattle.table_facts.specs.States.{state_of}
-use Rattle.table_facts.proofs.Ending.{ok_then}
+use Rattle.sql_facts.specs.States.{state_of}
+use Rattle.sql_facts.proofs.Ending.{ok_then}
 use Rattle.index_store.specs.declared.port_table.Part.TheVariants.{Earlier, Current}
 use Rattle.index_store.specs.declared.change.Change.TheVariants.{Put}
 use Rattle.index_store.specs.Marks.{rows_after}

@@ -1,8 +1,8 @@
 -- The row is added where there is none, or replaced.
 use Rattle.std.proofs.Common.{◌∙◌, ap, sym, Some}
 use Rattle.mk_text.specs.Profiles.{profile_number}
-use Rattle.table_facts.specs.States.{state_of}
-use Rattle.table_facts.proofs.Ending.{ok_then}
+use Rattle.sql_facts.specs.States.{state_of}
+use Rattle.sql_facts.proofs.Ending.{ok_then}
 use Rattle.index_store.specs.PortTable.{Rows, ByPath, rows_of, with_row, with_rows}
 use Rattle.index_store.specs.declared.port_table.Part.TheVariants.{Earlier, Current}
 use Rattle.index_store.proofs.Changing.{by_part}

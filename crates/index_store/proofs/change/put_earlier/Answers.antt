@@ -1,7 +1,7 @@
 -- The row there goes, and this one is added.
 use Rattle.std.proofs.Common.{◌∙◌, ap, None}
-use Rattle.table_facts.specs.States.{state_of}
-use Rattle.table_facts.proofs.Ending.{ok_then}
+use Rattle.sql_facts.specs.States.{state_of}
+use Rattle.sql_facts.proofs.Ending.{ok_then}
 use Rattle.index_store.specs.declared.port_table.Part.TheVariants.{Earlier, Current}
 use Rattle.index_store.specs.declared.change.Change.TheVariants.{PutEarlier}
 use Rattle.index_store.specs.Marks.{rows_after}

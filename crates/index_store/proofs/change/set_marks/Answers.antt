@@ -2,7 +2,7 @@
 use Rattle.std.proofs.Common.{◌∙◌, ap, refl, subst, List, String, map, take, string_bytes}
 use Rattle.std.specs.declared.alloc.Global.{Global}
 use Rattle.std.proofs.lemmas.List.{take_all}
-use Rattle.table_facts.specs.States.{state_of}
+use Rattle.sql_facts.specs.States.{state_of}
 use Rattle.index_store.specs.declared.port_table.Part.TheVariants.{Earlier}
 use Rattle.index_store.specs.Marks.{mark_number}
 use Rattle.index_store.specs.PortTable.{HoldsInside, Rows, rows_of, marked_at, marked_among}

@@ -1,6 +1,6 @@
 -- The rows of the paths up to here have the mark.
 use Rattle.std.proofs.Common.{map, take, string_bytes}
-use Rattle.table_facts.specs.States.{KeepsCommit, state_of}
+use Rattle.sql_facts.specs.States.{KeepsCommit, state_of}
 use Rattle.index_store.specs.Marks.{mark_number}
 use Rattle.index_store.specs.PortTable.{HoldsInside, rows_of, marked_among}
 use Rattle.index_store.proofs.change.set_marks.Given as goal

@@ -1,7 +1,7 @@
 -- The row gets its mark, and goes.
 use Rattle.std.proofs.Common.{ap}
-use Rattle.table_facts.specs.States.{state_of}
-use Rattle.table_facts.proofs.Ending.{ok_then}
+use Rattle.sql_facts.specs.States.{state_of}
+use Rattle.sql_facts.proofs.Ending.{ok_then}
 use Rattle.index_store.specs.declared.port_table.Part.TheVariants.{Earlier, Current}
 use Rattle.index_store.specs.PortTable.{Rows, rows_of, with_rows, staying_of, without}
 use Rattle.index_store.proofs.Changing.{by_part}

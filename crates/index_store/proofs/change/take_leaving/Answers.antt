@@ -1,7 +1,7 @@
 -- The one table, and then the other.
 use Rattle.std.proofs.Common.{refl}
-use Rattle.table_facts.specs.States.{state_of}
-use Rattle.table_facts.proofs.Ending.{ok_then}
+use Rattle.sql_facts.specs.States.{state_of}
+use Rattle.sql_facts.proofs.Ending.{ok_then}
 use Rattle.index_store.specs.PortTable.{rows_of, staying_of}
 use Rattle.index_store.proofs.Composing.{both_changed, one_changed}
 use Rattle.index_store.proofs.change.take_leaving.Goals as goal

@@ -1,7 +1,7 @@
 -- The rows get their mark, and go.
 use Rattle.std.proofs.Common.{◌∙◌, ap, map, string_bytes}
-use Rattle.table_facts.specs.States.{state_of}
-use Rattle.table_facts.proofs.Ending.{ok_then}
+use Rattle.sql_facts.specs.States.{state_of}
+use Rattle.sql_facts.proofs.Ending.{ok_then}
 use Rattle.index_store.specs.declared.port_table.Part.TheVariants.{Earlier}
 use Rattle.index_store.specs.declared.change.Change.TheVariants.{TakeOut}
 use Rattle.index_store.specs.Marks.{rows_after}

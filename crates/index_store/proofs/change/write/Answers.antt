@@ -1,6 +1,6 @@
 -- What a change makes of the rows of both tables, or nothing has changed.
-use Rattle.table_facts.specs.States.{state_of}
-use Rattle.table_facts.proofs.Ending.{ok_then, err_then}
+use Rattle.sql_facts.specs.States.{state_of}
+use Rattle.sql_facts.proofs.Ending.{ok_then, err_then}
 use Rattle.index_store.proofs.Keeping.{still_entries, change_kept, change_made}
 use Rattle.index_store.proofs.change.write.Goals as goal
 

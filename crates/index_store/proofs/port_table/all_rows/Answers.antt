@@ -1,7 +1,7 @@
 -- What the query shows.
 use Rattle.std.proofs.Common.{refl}
 use Rattle.sqlite.proofs.Callers.{memory_is_clean}
-use Rattle.table_facts.specs.States.{state_of}
+use Rattle.sql_facts.specs.States.{state_of}
 use Rattle.index_store.proofs.Answering.{rows_end}
 use Rattle.index_store.proofs.port_table.all_rows.Goals as goal
 

@@ -1,5 +1,5 @@
 -- The second table.
-use Rattle.table_facts.specs.States.{state_of}
+use Rattle.sql_facts.specs.States.{state_of}
 use Rattle.sqlite.proofs.Callers.{memory_is_clean}
 use Rattle.index_store.proofs.Keeping.{creates_current}
 use Rattle.index_store.proofs.port_table.create_current.Goals as goal

@@ -1,9 +1,9 @@
 -- The first table.
 use Rattle.std.proofs.Common.{refl}
 use Rattle.sqlite.proofs.Callers.{memory_is_clean}
-use Rattle.table_facts.specs.States.{state_of}
-use Rattle.table_facts.specs.Tables.{no_schema}
-use Rattle.table_facts.proofs.Creating.{creates}
+use Rattle.sql_facts.specs.States.{state_of}
+use Rattle.sql_facts.specs.Tables.{no_schema}
+use Rattle.sql_facts.proofs.Creating.{creates}
 use Rattle.index_store.specs.PortTable.{create_earlier, earlier_table}
 use Rattle.index_store.proofs.Fixed.{create_earlier_text}
 use Rattle.index_store.proofs.port_table.create_earlier.Goals as goal

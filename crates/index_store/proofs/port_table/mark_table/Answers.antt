@@ -1,5 +1,5 @@
 -- What the statement makes.
-use Rattle.table_facts.specs.States.{state_of}
+use Rattle.sql_facts.specs.States.{state_of}
 use Rattle.index_store.proofs.Changing.{marks_all}
 use Rattle.index_store.proofs.port_table.mark_table.Goals as goal
 

@@ -1,6 +1,6 @@
 -- What the statement makes, and what its count says.
 use Rattle.mk_text.specs.Profiles.{profile_number}
-use Rattle.table_facts.specs.States.{state_of}
+use Rattle.sql_facts.specs.States.{state_of}
 use Rattle.index_store.proofs.Changing.{replaces}
 use Rattle.index_store.proofs.port_table.replace_current.Goals as goal
 

@@ -1,6 +1,6 @@
 -- What both tables show, together.
 use Rattle.std.proofs.Common.{◌∙◌, ◌++◌, ap, sym, subst, map}
-use Rattle.table_facts.specs.States.{state_of}
+use Rattle.sql_facts.specs.States.{state_of}
 use Rattle.index_store.specs.declared.port_table.Part.TheVariants.{Earlier}
 use Rattle.index_store.specs.Entries.{AreRowsOf, stored_seen}
 use Rattle.index_store.specs.PortTable.{Rows, rows_of, entries_of, stored_by, stored_of, row_shown}

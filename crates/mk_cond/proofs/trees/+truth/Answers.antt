@@ -4,9 +4,9 @@ use Rattle.mk_base.specs.Meter.{IsLater-on}
 use Rattle.mk_files.specs.Questions.{account}
 use Rattle.mk_files.specs.AfterQuestions.{AfterQuestions-on, AfterQuestions-files}
 use Rattle.mk_files.specs.Work.{DoesWork-stops}
-use Rattle.cond_grammar.specs.Placed.{IsTokenIn}
-use Rattle.cond_grammar.specs.Trees.{or_tokens, not_tokens}
-use Rattle.cond_grammar.specs.Views.{condition_tree, conjunction_tree, term_tree}
+use Rattle.mk_cond_tree.specs.Placed.{IsTokenIn}
+use Rattle.mk_cond_tree.specs.Trees.{or_tokens, not_tokens}
+use Rattle.mk_cond_tree.specs.Views.{condition_tree, conjunction_tree, term_tree}
 use Rattle.mk_cond.specs.Leaves.{surroundings_of}
 use Rattle.mk_cond.specs.Truths.{and_truth, not_truth}
 use Rattle.mk_cond.proofs.Operands.{or-begins, ands-decided, ands-next, ands-stop, ands-end, and-begins, nots-decided, nots-next, nots-stop, nots-end}

@@ -2,9 +2,9 @@ use Rattle.std.proofs.Common.{◌≡◌, ◌+◌, ◌*◌, map, drop, length}
 use Rattle.mk_base.specs.Meter.{IsLater}
 use Rattle.mk_files.specs.Questions.{account}
 use Rattle.mk_files.specs.AfterQuestions.{AfterQuestions}
-use Rattle.cond_grammar.specs.Reader.{later_ands, later_nots}
-use Rattle.cond_grammar.specs.Trees.{or_tokens, and_tokens, not_tokens}
-use Rattle.cond_grammar.specs.Views.{condition_tree, conjunction_tree, term_tree}
+use Rattle.mk_cond_tree.specs.Reader.{later_ands, later_nots}
+use Rattle.mk_cond_tree.specs.Trees.{or_tokens, and_tokens, not_tokens}
+use Rattle.mk_cond_tree.specs.Views.{condition_tree, conjunction_tree, term_tree}
 use Rattle.mk_cond.specs.Leaves.{surroundings_of}
 use Rattle.mk_cond.specs.Truths.{later_ands_truth, later_nots_truth}
 use Rattle.mk_cond.proofs.trees.+truth.Given as goal

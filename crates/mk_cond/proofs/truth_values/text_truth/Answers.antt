@@ -5,9 +5,9 @@ use Rattle.mk_base.specs.Outcome.{after}
 use Rattle.mk_ref.specs.Units.{left_of}
 use Rattle.mk_ref.specs.Outside.{outside}
 use Rattle.mk_files.specs.Questions.{Account}
-use Rattle.cond_grammar.specs.Trees.{OrTree}
-use Rattle.cond_grammar.specs.Conditions.{IsConditionOf, IsFaultOf, tree_in}
-use Rattle.cond_grammar.specs.Laws.{ConditionsAreRead}
+use Rattle.mk_cond_tree.specs.Trees.{OrTree}
+use Rattle.mk_cond_tree.specs.Conditions.{IsConditionOf, IsFaultOf, tree_in}
+use Rattle.mk_cond_tree.specs.Laws.{ConditionsAreRead}
 use Rattle.mk_cond.specs.Leaves.{Surroundings}
 use Rattle.mk_cond.specs.Truths.{or_truth}
 use Rattle.mk_cond.specs.Truth.{readable, tree_read, condition_truth}

@@ -3,7 +3,7 @@ use Rattle.std.proofs.Common.{◌≡◌, ◌∙◌, ◌++◌, ap, append_assoc, 
 use Rattle.std.specs.List.{filter_map}
 use Rattle.std.specs.Option.{option_to_list}
 use Rattle.general_facts.specs.Lists as general
-use Rattle.ports_index.specs.Dependencies.{target_by}
+use Rattle.port_index.specs.Dependencies.{target_by}
 use Rattle.plain_reference.proofs.beside.add_named.Goals as goal
 
 pub loop-depend-preserved : goal.loop-depend-preserved

@@ -2,10 +2,10 @@
 use Rattle.std.proofs.Common.{◌≡◌, ◌∙◌, ap, sym, List, ℕ, ◌++◌, map, string_bytes, take, take_all}
 use Rattle.std.specs.List.{flat_map}
 use Rattle.text_parts.specs.Order.{in_order}
-use Rattle.ports_index.specs.Dependencies.{targets_in}
-use Rattle.ports_index.specs.Seen.{entries_in, known_in, known_row}
-use Rattle.ports_index.proofs.More.{flat_map-more}
-use Rattle.ports_index.proofs.TargetLemmas.{targets-among}
+use Rattle.port_index.specs.Dependencies.{targets_in}
+use Rattle.port_index.specs.Seen.{entries_in, known_in, known_row}
+use Rattle.port_index.proofs.More.{flat_map-more}
+use Rattle.port_index.proofs.TargetLemmas.{targets-among}
 use Rattle.plain_reference.proofs.beside.paths_beside.Goals as goal
 
 pub loop-path-preserved : goal.loop-path-preserved

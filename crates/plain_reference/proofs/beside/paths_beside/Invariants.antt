@@ -1,9 +1,9 @@
 -- Those so far are all that the items of the ports up to here name.
 use Rattle.std.proofs.Common.{◌≡◌, map, take, string_bytes}
 use Rattle.std.specs.List.{flat_map}
-use Rattle.ports_index.specs.Dependencies.{targets_in}
-use Rattle.ports_index.specs.Finders.{IsFinderOf}
-use Rattle.ports_index.specs.Seen.{entries_in, known_in}
+use Rattle.port_index.specs.Dependencies.{targets_in}
+use Rattle.port_index.specs.Finders.{IsFinderOf}
+use Rattle.port_index.specs.Seen.{entries_in, known_in}
 use Rattle.plain_reference.proofs.beside.paths_beside.Given as goal
 
 abbrev pub invariant-loop-path : goal.invariant-loop-path

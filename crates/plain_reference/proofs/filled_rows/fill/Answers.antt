@@ -2,14 +2,14 @@
 use Rattle.std.proofs.Common.{◌∙◌, ℕ, List, sym, ap, ap₂, subst, [], ◌∷◌, map, take, None, string_bytes}
 use Rattle.mk_paths.specs.World.{FileMap, World}
 use Rattle.plain_reference.specs.Right.{AreOutcomes}
-use Rattle.ports_index.specs.FilledRows.{Fills}
+use Rattle.port_index.specs.FilledRows.{Fills}
 use Rattle.plain_reference.specs.Work.{both, effort_over}
-use Rattle.ports_index.specs.Efforts.{lacking}
-use Rattle.ports_index.specs.Seen.{entries_in}
+use Rattle.port_index.specs.Efforts.{lacking}
+use Rattle.port_index.specs.Seen.{entries_in}
 use Rattle.plain_reference.proofs.WorkLemmas.{Effort-on}
 use Rattle.plain_reference.proofs.Filled.{Stay-on, Fills-on}
 use Rattle.plain_reference.proofs.Kept.{KeepsFiles-on}
-use Rattle.ports_index.proofs.More.{map-more}
+use Rattle.port_index.proofs.More.{map-more}
 use Rattle.plain_reference.proofs.filled_rows.fill.Goals as goal
 
 pub loop-path-preserved : goal.loop-path-preserved

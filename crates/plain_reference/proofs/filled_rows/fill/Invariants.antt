@@ -1,11 +1,11 @@
 -- The paths up to here have their rows, and the files are as they were.
 use Rattle.std.proofs.Common.{◌≡◌, map, take, None, string_bytes}
 use Rattle.plain_reference.specs.Right.{AreOutcomes, Stay}
-use Rattle.ports_index.specs.FilledRows.{Fills}
+use Rattle.port_index.specs.FilledRows.{Fills}
 use Rattle.plain_reference.specs.Work.{effort_over}
-use Rattle.ports_index.specs.Efforts.{lacking}
-use Rattle.ports_index.specs.Seen.{entries_in}
-use Rattle.ports_index.specs.KeptFiles.{KeepsFiles}
+use Rattle.port_index.specs.Efforts.{lacking}
+use Rattle.port_index.specs.Seen.{entries_in}
+use Rattle.port_index.specs.KeptFiles.{KeepsFiles}
 use Rattle.plain_reference.proofs.filled_rows.fill.Given as goal
 
 abbrev pub invariant-loop-path : goal.invariant-loop-path

@@ -1,9 +1,9 @@
 -- The path is given what it leads to.
 use Rattle.std.proofs.Common.{◌∙◌, sym, ap, Bor, string_bytes}
 use Rattle.mk_paths.specs.World.{World}
-use Rattle.ports_index.specs.PathOutcomes.{Finding, outcome_at}
-use Rattle.ports_index.specs.Seen.{row_seen, finding_seen, entries_in}
-use Rattle.ports_index.specs.declared.path_outcomes.Row.{Row}
+use Rattle.port_index.specs.PathOutcomes.{Finding, outcome_at}
+use Rattle.port_index.specs.Seen.{row_seen, finding_seen, entries_in}
+use Rattle.port_index.specs.declared.path_outcomes.Row.{Row}
 use Rattle.plain_reference.proofs.WorkLemmas.{is_none-seen, Effort-one}
 use Rattle.plain_reference.proofs.Filled.{AreRight-put}
 use Rattle.plain_reference.proofs.filled_rows.fill_one.Goals as goal

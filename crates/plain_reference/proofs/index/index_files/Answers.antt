@@ -1,12 +1,12 @@
 -- The rows of the listed paths say which paths are beside them, and then each of both has its row.
 use Rattle.std.proofs.Common.{◌≡◌, ◌∙◌, sym, ◌++◌, ap, ap₂, subst, ℕ, List, map, option_map, string_bytes}
 use Rattle.mk_paths.specs.World.{FileMap, World}
-use Rattle.ports_index.specs.Efforts.{lacking}
-use Rattle.ports_index.specs.FilledRows.{Fills}
-use Rattle.ports_index.specs.Index.{listed_paths, needed_among, needed_paths}
+use Rattle.port_index.specs.Efforts.{lacking}
+use Rattle.port_index.specs.FilledRows.{Fills}
+use Rattle.port_index.specs.Index.{listed_paths, needed_among, needed_paths}
 use Rattle.plain_reference.specs.Needed.{needed_with}
-use Rattle.ports_index.specs.Seen.{Said, known_in, entries_in}
-use Rattle.ports_index.proofs.Filled.{Entries, one_of-append, one_of-in_order}
+use Rattle.port_index.specs.Seen.{Said, known_in, entries_in}
+use Rattle.port_index.proofs.Filled.{Entries, one_of-append, one_of-in_order}
 use Rattle.plain_reference.specs.Work.{both, effort_over}
 use Rattle.plain_reference.proofs.Filled.{Fills-on, Fills-same, say-filled}
 use Rattle.plain_reference.proofs.WorkLemmas.{Effort-on, lacking-all}

@@ -3,13 +3,13 @@ use Rattle.std.proofs.Common.{◌≡◌, ◌∙◌, ◌++◌, ap, ap₂, subst, 
 use Rattle.std.proofs.lemmas.Bool.{or_right}
 use Rattle.std.specs.List.{flat_map}
 use Rattle.mk_paths.specs.World.{FileMap, World, files_in}
-use Rattle.ports_index.specs.PathOutcomes.{PathOutcome, outcome_at}
-use Rattle.ports_index.specs.Efforts.{lacking}
-use Rattle.ports_index.specs.TreePaths.{directories, named_at, listed_from}
-use Rattle.ports_index.specs.FilledRows.{is_one_of, Fills}
-use Rattle.ports_index.specs.Index.{listed_paths}
-use Rattle.ports_index.specs.Seen.{known_in, entries_in}
-use Rattle.ports_index.proofs.Filled.{one_of-in_order}
+use Rattle.port_index.specs.PathOutcomes.{PathOutcome, outcome_at}
+use Rattle.port_index.specs.Efforts.{lacking}
+use Rattle.port_index.specs.TreePaths.{directories, named_at, listed_from}
+use Rattle.port_index.specs.FilledRows.{is_one_of, Fills}
+use Rattle.port_index.specs.Index.{listed_paths}
+use Rattle.port_index.specs.Seen.{known_in, entries_in}
+use Rattle.port_index.proofs.Filled.{one_of-in_order}
 use Rattle.plain_reference.specs.Work.{both, effort_over}
 use Rattle.plain_reference.proofs.Filled.{Stay-on, Fills-on, Fills-same, say-filled, one_of-absorbed}
 use Rattle.plain_reference.proofs.WorkLemmas.{Effort-on, lacking-absorbed}

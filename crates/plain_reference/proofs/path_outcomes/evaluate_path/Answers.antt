@@ -4,10 +4,10 @@ use Rattle.std.specs.Prelude.{IfOk, OnOk}
 use Rattle.mk_paths.specs.World.{World}
 use Rattle.mk_paths.specs.FilesView.{noted}
 use Rattle.mk_eval.specs.Views.{flavors_in}
-use Rattle.ports_index.specs.PathOutcomes.{finding_in, finding_at}
-use Rattle.ports_index.specs.PathQuestions.{questions_in, questions_at}
-use Rattle.ports_index.specs.Seen.{finding_seen}
-use Rattle.ports_index.specs.NamedPaths.{finding-named, questions-named}
+use Rattle.port_index.specs.PathOutcomes.{finding_in, finding_at}
+use Rattle.port_index.specs.PathQuestions.{questions_in, questions_at}
+use Rattle.port_index.specs.Seen.{finding_seen}
+use Rattle.port_index.specs.NamedPaths.{finding-named, questions-named}
 use Rattle.plain_reference.proofs.path_outcomes.evaluate_path.Goals as goal
 
 pub returns-in-Some-clause-finding : goal.returns-in-Some-clause-finding

@@ -3,7 +3,7 @@ use Rattle.std.proofs.Common.{subst, sym}
 use Rattle.sqlite.specs.Held.{state}
 use Rattle.sqlite.specs.Steps.{over_memory}
 use Rattle.sqlite_rules.specs.Lists.{Has}
-use Rattle.table_facts.proofs.Ending.{if_ok_then}
+use Rattle.sql_facts.proofs.Ending.{if_ok_then}
 use Rattle.tenant_store.specs.SettingsRows.{shown_settings}
 use Rattle.tenant_store.specs.Tables.{held_in}
 use Rattle.tenant_store.proofs.Answering.{first_has}

@@ -4,7 +4,7 @@ use Rattle.std.proofs.lemmas.Grind.{common_steps}
 use Rattle.text_parts.specs.Laws.{after_marks}
 use Rattle.general_facts.specs.Ascii.{colon}
 use Rattle.mk_paths.specs.SearchPath.{IsSearchPath}
-use Rattle.table_facts.proofs.Ending.{if_ok_then}
+use Rattle.sql_facts.proofs.Ending.{if_ok_then}
 use Rattle.tenant_store.proofs.Paths.{text_trees}
 use Rattle.tenant_store.proofs.settings.path_text.Goals as goal
 

@@ -1,5 +1,5 @@
 -- The settings are written with the new path.
-use Rattle.table_facts.proofs.Ending.{on_error}
+use Rattle.sql_facts.proofs.Ending.{on_error}
 use Rattle.tenant_store.proofs.settings.set_path.Goals as goal
 
 pub returns-in_err-settings-clause-err : goal.returns-in_err-settings-clause-err

@@ -1,9 +1,9 @@
 -- The first table.
 use Rattle.std.proofs.Common.{refl}
 use Rattle.sqlite.proofs.Callers.{memory_is_clean}
-use Rattle.table_facts.specs.States.{state_of}
-use Rattle.table_facts.specs.Tables.{no_schema}
-use Rattle.table_facts.proofs.Creating.{creates}
+use Rattle.sql_facts.specs.States.{state_of}
+use Rattle.sql_facts.specs.Tables.{no_schema}
+use Rattle.sql_facts.proofs.Creating.{creates}
 use Rattle.tenant_store.specs.Tables.{create_file, file_table}
 use Rattle.tenant_store.proofs.Fixed.{create_file_text}
 use Rattle.tenant_store.proofs.tables.create_files.Goals as goal

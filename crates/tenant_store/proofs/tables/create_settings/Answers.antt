@@ -1,8 +1,8 @@
 -- The second table.
 use Rattle.std.proofs.Common.{◌∙◌, refl}
 use Rattle.sqlite.proofs.Callers.{memory_is_clean}
-use Rattle.table_facts.specs.States.{state_of}
-use Rattle.table_facts.proofs.Creating.{creates}
+use Rattle.sql_facts.specs.States.{state_of}
+use Rattle.sql_facts.proofs.Creating.{creates}
 use Rattle.tenant_store.specs.Tables.{create_settings, file_schema, settings_table}
 use Rattle.tenant_store.proofs.Fixed.{create_settings_text}
 use Rattle.tenant_store.proofs.tables.create_settings.Goals as goal

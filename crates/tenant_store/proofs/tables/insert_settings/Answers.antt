@@ -1,6 +1,6 @@
 -- The first settings.
-use Rattle.table_facts.proofs.Ending.{ok_then}
-use Rattle.table_facts.specs.States.{state_of}
+use Rattle.sql_facts.proofs.Ending.{ok_then}
+use Rattle.sql_facts.specs.States.{state_of}
 use Rattle.tenant_store.proofs.Creating.{inserts_settings}
 use Rattle.tenant_store.proofs.tables.insert_settings.Goals as goal
 

@@ -1,6 +1,6 @@
 -- What the statement makes.
-use Rattle.table_facts.proofs.Ending.{ok_then}
-use Rattle.table_facts.specs.States.{state_of}
+use Rattle.sql_facts.proofs.Ending.{ok_then}
+use Rattle.sql_facts.specs.States.{state_of}
 use Rattle.tenant_store.proofs.Keeping.{ends}
 use Rattle.tenant_store.proofs.Making.{inserts_file}
 use Rattle.tenant_store.proofs.updates.insert_file.Goals as goal

@@ -1,7 +1,7 @@
 -- What the statement makes.
 use Rattle.std.proofs.Common.{string_bytes}
-use Rattle.table_facts.proofs.Ending.{ok_then}
-use Rattle.table_facts.specs.States.{state_of}
+use Rattle.sql_facts.proofs.Ending.{ok_then}
+use Rattle.sql_facts.specs.States.{state_of}
 use Rattle.tenant_store.proofs.Keeping.{ends}
 use Rattle.tenant_store.proofs.Making.{updates_settings}
 use Rattle.tenant_store.proofs.updates.update_settings.Goals as goal

@@ -1,8 +1,8 @@
 -- The rows that are left are those of the index, and what is kept of them in memory says what they say.
 use Rattle.std.proofs.Common.{◌∙◌, ap, refl, None, if◌then◌else◌, map, string_bytes}
-use Rattle.ports_index.specs.FilledRows.{is_one_of}
-use Rattle.ports_index.specs.Index.{needed_paths}
-use Rattle.ports_index.specs.Seen.{said_in}
+use Rattle.port_index.specs.FilledRows.{is_one_of}
+use Rattle.port_index.specs.Index.{needed_paths}
+use Rattle.port_index.specs.Seen.{said_in}
 use Rattle.index_keep.specs.Shown.{shown, no_name}
 use Rattle.index_keep.proofs.WalkLemmas.{AreCurrent-left, AreKept-left, have-said, said-left, says-current}
 use Rattle.index_keep.proofs.keeper.Keeper.end.Goals as goal

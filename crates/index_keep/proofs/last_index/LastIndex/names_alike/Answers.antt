@@ -1,5 +1,5 @@
 use Rattle.std.proofs.Common.{◌∙◌, ap, sym, option_map}
-use Rattle.ports_index.specs.Seen.{row_seen}
+use Rattle.port_index.specs.Seen.{row_seen}
 use Rattle.index_keep.proofs.last_index.LastIndex.names_alike.Goals as goal
 
 pub returns-in-Some : goal.returns-in-Some

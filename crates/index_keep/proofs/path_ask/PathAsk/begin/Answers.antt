@@ -2,7 +2,7 @@
 use Rattle.std.proofs.Common.{refl, subst, sym, arith, IfOk, Bor, map, option_map, string_bytes, List, String, Global}
 use Rattle.mk_paths.specs.World.{World, FileMap}
 use Rattle.eval_cache.specs.Keys.{key_for}
-use Rattle.ports_index.specs.declared.spent.Spent.{Spent}
+use Rattle.port_index.specs.declared.spent.Spent.{Spent}
 use Rattle.read_trace.specs.Recorder.{view_of}
 use Rattle.eval_ask.specs.Ask.{HasComeTo, HasLooked, IsUpFrom, spent_in}
 use Rattle.index_keep.specs.Paths.{IsPathAsk, TurnsPath}

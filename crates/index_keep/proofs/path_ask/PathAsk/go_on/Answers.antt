@@ -3,7 +3,7 @@ use Rattle.std.proofs.Common.{◌≡◌, ◌≤◌, ◌+◌, ◌-◌, ◌∙◌,
 use Rattle.mk_base.specs.declared.budget.TheConstants.{UNITS}
 use Rattle.eval_cache.specs.Keys.{key_for}
 use Rattle.read_trace.specs.Recorder.{view_of}
-use Rattle.ports_index.specs.declared.spent.Spent.{Spent}
+use Rattle.port_index.specs.declared.spent.Spent.{Spent}
 use Rattle.eval_ask.specs.Ask.{HasComeTo, IsUpFrom, spent_in, total_of}
 use Rattle.index_keep.specs.Paths.{flavors_named}
 use Rattle.eval_ask.specs.declared.ask.AskTurned.{AskTurned}

@@ -4,9 +4,9 @@ use Rattle.std.proofs.lemmas.List.{take-map}
 use Rattle.mk_paths.specs.FilesView.{view_world}
 use Rattle.mk_paths.specs.World.{World, FileMap}
 use Rattle.read_trace.specs.Recorder.{view_of}
-use Rattle.ports_index.specs.Efforts.{decided, has_makefile}
-use Rattle.ports_index.specs.FilledRows.{is_one_of}
-use Rattle.ports_index.specs.Seen.{entries_in}
+use Rattle.port_index.specs.Efforts.{decided, has_makefile}
+use Rattle.port_index.specs.FilledRows.{is_one_of}
+use Rattle.port_index.specs.Seen.{entries_in}
 use Rattle.index_keep.specs.Paths.{IsFoundAt, IsFoundOf}
 use Rattle.index_keep.specs.Walk.{paths_of}
 use Rattle.index_keep.proofs.ListLemmas.{none-of, one_of-place, passes-more, some-map}

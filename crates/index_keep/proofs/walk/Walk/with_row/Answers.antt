@@ -1,9 +1,9 @@
 -- The index of before is recalled as long as each row names the same paths as the outdated one.
 use Rattle.std.proofs.Common.{◌≡◌, subst, IfSome, List, ℕ, Some, string_bytes}
 use Rattle.mk_paths.specs.World.{files_in}
-use Rattle.ports_index.specs.Index.{listed_paths, needed_paths}
-use Rattle.ports_index.specs.TreePaths.{directories}
-use Rattle.ports_index.specs.Seen.{known_seen, row_seen}
+use Rattle.port_index.specs.Index.{listed_paths, needed_paths}
+use Rattle.port_index.specs.TreePaths.{directories}
+use Rattle.port_index.specs.Seen.{known_seen, row_seen}
 use Rattle.index_keep.specs.Last.{NamesAsBefore}
 use Rattle.index_keep.specs.Walk.{IsWalk, directories_in, listed_of}
 use Rattle.index_keep.specs.declared.last_index.LastIndex.{LastIndex}

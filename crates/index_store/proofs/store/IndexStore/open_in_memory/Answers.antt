@@ -1,7 +1,7 @@
 -- No path has a row.
 use Rattle.std.proofs.Common.{◌∙◌, ap, sym, is_some}
 use Rattle.std.specs.Prelude.{option_map}
-use Rattle.table_facts.specs.States.{state_of}
+use Rattle.sql_facts.specs.States.{state_of}
 use Rattle.index_store.specs.PortTable.{Rows, all_of, value_stored}
 use Rattle.index_store.specs.declared.port_table.Part.TheVariants.{Earlier}
 use Rattle.index_store.proofs.Answering.{all_found}

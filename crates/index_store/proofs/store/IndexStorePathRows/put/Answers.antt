@@ -4,7 +4,7 @@ use Rattle.std.proofs.lemmas.Bool.{not-true}
 use Rattle.std.specs.BTreeSet.{contains_text}
 use Rattle.std.specs.Option.{option_or}
 use Rattle.std.specs.Prelude.{option_map}
-use Rattle.table_facts.specs.States.{state_of}
+use Rattle.sql_facts.specs.States.{state_of}
 use Rattle.index_store.specs.PortTable.{Entry, rows_of, stored_in, value_stored}
 use Rattle.index_store.specs.declared.port_table.Part.TheVariants.{Earlier, Current}
 use Rattle.index_store.proofs.Answering.{all_found}

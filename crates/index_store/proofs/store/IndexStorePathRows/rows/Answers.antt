@@ -1,6 +1,6 @@
 -- Nothing has changed.
 use Rattle.std.proofs.Common.{◌∙◌, ap, sym, subst}
-use Rattle.table_facts.specs.States.{state_of}
+use Rattle.sql_facts.specs.States.{state_of}
 use Rattle.index_store.specs.PortTable.{AreNotedPaths, stored_by, profiles_by}
 use Rattle.index_store.proofs.Keeping.{still_with, still_entries}
 use Rattle.index_store.proofs.store.IndexStorePathRows.rows.Goals as goal

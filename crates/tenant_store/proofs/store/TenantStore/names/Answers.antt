@@ -4,7 +4,7 @@ use Rattle.std.specs.FinMap.{keys}
 use Rattle.sqlite.specs.Held.{state}
 use Rattle.sqlite.specs.Steps.{over_memory}
 use Rattle.mk_paths.specs.World.{World, files_in}
-use Rattle.table_facts.proofs.Ending.{if_ok_then}
+use Rattle.sql_facts.proofs.Ending.{if_ok_then}
 use Rattle.tenant_store.specs.Tables.{world_in_state}
 use Rattle.tenant_store.proofs.store.TenantStore.names.Goals as goal
 

@@ -1,7 +1,0 @@
-use Rattle.std.proofs.Common.{◌≡◌, drop}
-use Rattle.cond_grammar.specs.Tokens.{is_stop}
-use Rattle.cond_grammar.specs.Scanner.{first_or_end}
-use Rattle.cond_grammar.proofs.scanner.side_end.Given as goal
-
-abbrev pub invariant-loop-at : goal.invariant-loop-at
-invariant-loop-at l = first_or_end is_stop l.at (drop l.at l.bytes) ≡ first_or_end is_stop l.start (drop l.start l.bytes)

@@ -1,0 +1,35 @@
+//! Names of packages.
+ghost use Rattle.std.specs.Prelude.{◌≡◌, IfOk, OnOk, IsTrue, Some};
+ghost use Rattle.pkg_name.specs.Name.{split_name};
+ghost use Rattle.index_row.specs.Names.{name};
+ghost use Rattle.index_row.specs.Answers.{Gives, Adds};
+
+use crate::fields::{read_str, write_text};
+use crate::unread::Unread;
+use pkg_name::{NameFault, PkgName};
+use std::alloc::{AllocError, Global};
+
+/// The name of a package.
+#[tactic(auto, unfolding(crate::specs::Names::name))]
+pub(crate) fn read_name(alloc: Global, bytes: &[u8]) -> Result<(PkgName, &[u8]), Unread>
+    ensures { Gives (λ x. (x.0, x.1.now)) result (name bytes.now) }
+{
+    let (text, rest) = read_str(bytes)?;
+    match PkgName::split(alloc, text) {
+        Ok(name) => Ok((name, rest)),
+        Err(NameFault::NoName) => Err(Unread::Damaged),
+        Err(NameFault::Memory(refused)) => Err(Unread::Memory(refused)),
+    }
+}
+
+/// Adds the name of a package, as its text, which is split into the name again.
+pub(crate) fn write_name(
+    alloc: Global,
+    out: &mut Vec<u8>,
+    written: &PkgName,
+) -> Result<(), AllocError>
+    ensures { OnOk result (Adds name out.old.items out.new.items written.now) }
+{
+    let text = written.text(alloc)?;
+    write_text(out, text.as_str())
+}

@@ -1,0 +1,133 @@
+-- What the answer to a request rests on: which makefiles are evaluated for it, and what that costs.
+use Rattle.std.specs.Prelude.{◌≢◌, ℕ, ◌+◌, ◌*◌, ◌/◌, List, [], AllPairs, length, Option, Some, None, option_map}
+use Rattle.std.specs.Prelude.{option_to_list, Result, Ok, Err}
+use Rattle.turn_amounts.specs.declared.TheConstants.{MOST_CHECKS, TURN_UNITS}
+use Rattle.mk_paths.specs.Place.{place}
+use Rattle.mk_paths.specs.SearchPath.{IsSearchPath}
+use Rattle.mk_paths.specs.World.{World, search_path_of}
+pub use Rattle.mk_eval.specs.Costs.{value_units}
+use Rattle.mk_eval.specs.Meaning.{means, value_of_variable}
+use Rattle.mk_eval.specs.declared.outcome.Evaluated.{Evaluated}
+use Rattle.mk_eval.specs.declared.outcome.Failed.{Failed}
+use Rattle.mk_eval.specs.declared.outcome.Kind.{Kind}
+use Rattle.mk_eval.specs.declared.outcome.Kind.TheVariants as kinds
+use Rattle.pkg_path.specs.Paths.{PathValue}
+pub use Rattle.port_rules.specs.Records.{record_units}
+use Rattle.port_rules.specs.Records.{record_of}
+use Rattle.port_index.specs.PathOutcomes.{with_cost}
+use Rattle.port_index.specs.Efforts.{cost_over}
+use Rattle.port_index.specs.Index.{needed_paths}
+use Rattle.port_index.specs.Pairs.{Pair, pair_in, pairs_at}
+use Rattle.plain_service.specs.declared.questions.Question.{Question}
+use Rattle.plain_service.specs.declared.questions.Question.TheVariants.{Settled, OfFile, OfPort, OfIndex}
+use Rattle.plain_service.specs.declared.port_questions.PortQuestion.{PortQuestion}
+use Rattle.plain_service.specs.declared.port_questions.PortQuestion.TheVariants.{Variable, Record}
+use Rattle.plain_service.specs.Requests.{PlainRequest}
+use Rattle.plain_service.specs.Questions.{question_of}
+use Rattle.plain_service.specs.Variables.{VariableValue}
+
+-- the makefile of a package path with the path's flavors, if it is there
+abbrev pub pair_of : World → PathValue → Option Pair
+pair_of world path = pair_in world path.directory path.flavors
+
+-- the path of the port that a question is about
+abbrev pub path_asked : PortQuestion → PathValue
+path_asked (Variable asked) = asked.path
+path_asked (Record path) = path
+
+-- The makefiles, with flavors, on which the answer to a question rests, each once. Of the index these are those of its
+-- roots, and those that items name.
+abbrev pub rests_for : World → Question → List Pair
+rests_for world (Settled prepared) = []
+rests_for world (OfFile asked) = []
+rests_for world (OfPort asked) = option_to_list (pair_of world (path_asked asked))
+rests_for world (OfIndex asked) = pairs_at world (needed_paths world)
+
+-- the units of an evaluation, and then those of a variable's value
+abbrev pub value_cost_after : List ℕ → List ℕ → Result Evaluated Failed → ℕ
+value_cost_after makefile name (Ok evaluated) = with_cost evaluated.cost (value_units (value_of_variable evaluated.env makefile name))
+value_cost_after makefile name (Err failed) = failed.cost
+
+-- the same of an evaluated makefile
+abbrev pub told_value_cost : Evaluated → List ℕ → List ℕ → ℕ
+told_value_cost evaluated makefile name = value_cost_after makefile name (Ok evaluated)
+
+-- the units of a makefile of this kind, and then those of the record if it describes a port
+abbrev pub record_cost_by : Kind → ℕ → ℕ → ℕ
+record_cost_by kinds.Port spent more = with_cost spent more
+record_cost_by kinds.List spent more = spent
+record_cost_by kinds.Other spent more = spent
+
+abbrev pub record_cost_after : List ℕ → Result Evaluated Failed → ℕ
+record_cost_after makefile (Ok evaluated) = record_cost_by evaluated.kind evaluated.cost (record_units (record_of evaluated.env makefile))
+record_cost_after makefile (Err failed) = failed.cost
+
+-- the units of an evaluated makefile that describes a port, and then those of the record
+abbrev pub described_cost : Evaluated → List ℕ → ℕ
+described_cost evaluated makefile = with_cost evaluated.cost (record_units (record_of evaluated.env makefile))
+
+-- what is found at a makefile costs nothing if the makefile isn't there
+abbrev pub cost_if_there : Option ℕ → ℕ
+cost_if_there None = 0
+cost_if_there (Some cost) = cost
+
+-- the units of a variable, of a port with this makefile
+abbrev pub value_cost_of : World → VariableValue → List ℕ → ℕ
+value_cost_of world asked makefile = value_cost_after makefile asked.name (means world makefile asked.path.flavors)
+
+-- the units of a variable of a port
+abbrev pub value_cost_at : World → VariableValue → ℕ
+value_cost_at world asked = cost_if_there (option_map (value_cost_of world asked) (place world asked.path.directory))
+
+-- the units of a port's record, if this is its makefile
+abbrev pub record_cost_of : World → PathValue → List ℕ → ℕ
+record_cost_of world path makefile = record_cost_after makefile (means world makefile path.flavors)
+
+-- the units of a port's record
+abbrev pub record_cost_at : World → PathValue → ℕ
+record_cost_at world path = cost_if_there (option_map (record_cost_of world path) (place world path.directory))
+
+-- the units of what a question asks of a port, after the evaluation of the port's makefile, with those of this
+abbrev pub cost_after : PortQuestion → List ℕ → Result Evaluated Failed → ℕ
+cost_after (Variable asked) makefile outcome = value_cost_after makefile asked.name outcome
+cost_after (Record path) makefile outcome = record_cost_after makefile outcome
+
+-- the same over a world
+abbrev pub port_cost_at : World → PortQuestion → ℕ
+port_cost_at world (Variable asked) = value_cost_at world asked
+port_cost_at world (Record path) = record_cost_at world path
+
+-- The units of all evaluations on which the answer to a question rests, with those of the records, of the SUBDIRs
+-- and of the value.
+abbrev pub cost_for : World → Question → ℕ
+cost_for world (Settled prepared) = 0
+cost_for world (OfFile asked) = 0
+cost_for world (OfPort asked) = port_cost_at world asked
+cost_for world (OfIndex asked) = cost_over world (needed_paths world)
+
+-- the makefiles, with flavors, on which the answer to a request rests, each once; their number; and the cost
+abbrev pub rests : World → PlainRequest → List Pair
+rests world request = rests_for world (question_of request)
+
+abbrev pub evaluations : World → PlainRequest → ℕ
+evaluations world request = length (rests world request)
+
+abbrev pub cost : World → PlainRequest → ℕ
+cost world request = cost_for world (question_of request)
+
+-- Within so many of its tenant's own turns a request that asks this is told its reply. It is one for that, one for each
+-- makefile that is evaluated, and one for as many units that it costs and answers that may be checked as a turn has units.
+abbrev pub turns_for : World → Question → ℕ
+turns_for world question =
+    1 + length (rests_for world question)
+    + (cost_for world question + MOST_CHECKS * length (rests_for world question)) / TURN_UNITS
+
+-- the same of a request
+abbrev pub most_turns : World → PlainRequest → ℕ
+most_turns world request = turns_for world (question_of request)
+
+-- along the trees of a search path, no makefile is twice, with the same flavors, among those on which an answer rests
+abbrev pub RestsOnEachOnce : Type 0
+RestsOnEachOnce =
+    (world : World) (request : PlainRequest)
+    → IsSearchPath (search_path_of world) → AllPairs (λ (one : Pair) (other : Pair). one ≢ other) (rests world request)

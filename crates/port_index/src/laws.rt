@@ -1,0 +1,62 @@
+//! What holds of all paths. The functions do nothing else: their clauses are the laws.
+ghost use Rattle.mk_paths.specs.World.{FileMap};
+ghost use Rattle.port_index.specs.Alike.{AlikeRowsListTheSame};
+ghost use Rattle.port_index.specs.Makefiles.{AreOfDirectories, SameMakefilesServe};
+ghost use Rattle.port_index.specs.PathLaws.{PathIsTheSameWhereAnswered, ListedPathsCostNoMore, MakefilesAreEvaluated};
+ghost use Rattle.port_index.specs.RowLaws.{KnownRowsAreEnough, NeededAreNamed, OneRowMoreLeavesLess};
+
+use mk_eval::same_where_answered;
+use mk_paths::Settings;
+
+/// Take any world with the same settings that gives the answers on which it depends what a path leads to.
+/// In it the path leads to the same, at the same cost, and this depends on the same answers.
+pub fn path_is_the_same_where_answered()
+    ensures { PathIsTheSameWhereAnswered }
+{
+    same_where_answered();
+}
+
+/// The listed paths cost no more than all paths on which the index depends: these, and those that items
+/// name, each once.
+pub fn listed_paths_cost_no_more()
+    ensures { ListedPathsCostNoMore }
+{}
+
+/// As many makefiles are evaluated for some paths as there are paths among them whose makefile is there.
+pub fn makefiles_are_evaluated()
+    ensures { MakefilesAreEvaluated }
+{}
+
+/// What the index is follows from rows alone, once they say what each path leads to on which it depends: which paths
+/// are listed and needed, and which roots and dependencies there are.
+pub fn known_rows_are_enough()
+    ensures { KnownRowsAreEnough }
+{}
+
+/// If a path that is needed gets its row, then less is left to be done, by as much as that path takes.
+pub fn one_row_more_leaves_less()
+    ensures { OneRowMoreLeavesLess }
+{}
+
+/// Where the rows of directories name the same paths as before, the same paths are listed. Where those of listed paths
+/// do, the same ones are needed.
+pub fn alike_rows_list_the_same()
+    ensures { AlikeRowsListTheSame }
+{}
+
+/// Where the same makefiles are there, the directories are the same, and the same paths have a makefile.
+pub fn same_makefiles_serve()
+    ensures { SameMakefilesServe }
+{}
+
+/// Under any settings, a path without a comma has a makefile only if it is one of the files' directories.
+pub fn makefiles_are_of_directories(settings: &Settings)
+    ensures { (files : FileMap) → AreOfDirectories (files, settings.now) }
+{
+    let _trees = settings.path.trees();
+}
+
+/// A path is needed if it is listed, or if an item of a port at a listed path names it.
+pub fn needed_are_named()
+    ensures { NeededAreNamed }
+{}

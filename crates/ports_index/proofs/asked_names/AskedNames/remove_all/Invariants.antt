@@ -1,6 +1,0 @@
--- Other paths stay noted.
-use Rattle.ports_index.specs.AskedNames.{is_noted, KeepsOtherNotes}
-use Rattle.ports_index.proofs.asked_names.AskedNames.remove_all.Given as goal
-
-abbrev pub invariant-loop-name : goal.invariant-loop-name
-invariant-loop-name l = KeepsOtherNotes l.path (is_noted l.initial.self) (is_noted l.self)

@@ -1,5 +1,0 @@
-use Rattle.ports_index.proofs.AlikeLemmas.{alike_rows}
-use Rattle.ports_index.proofs.laws.alike_rows_list_the_same.Goals as goal
-
-pub returns : goal.returns
-returns c = alike_rows

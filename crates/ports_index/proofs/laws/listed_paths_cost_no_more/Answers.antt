@@ -1,5 +1,0 @@
-use Rattle.ports_index.proofs.PairLemmas.{listed_cost}
-use Rattle.ports_index.proofs.laws.listed_paths_cost_no_more.Goals as goal
-
-pub returns : goal.returns
-returns c = listed_cost

@@ -1,5 +1,0 @@
-use Rattle.ports_index.proofs.PairLemmas.{evaluations_are}
-use Rattle.ports_index.proofs.laws.makefiles_are_evaluated.Goals as goal
-
-pub returns : goal.returns
-returns c = evaluations_are

@@ -1,5 +1,0 @@
-use Rattle.ports_index.proofs.TargetLemmas.{needed-named}
-use Rattle.ports_index.proofs.laws.needed_are_named.Goals as goal
-
-pub returns : goal.returns
-returns c = needed-named

@@ -1,5 +1,0 @@
-use Rattle.ports_plain.proofs.NeededOnce.{rests_on_each_once as once}
-use Rattle.ports_plain.proofs.laws.rests_on_each_once.Goals as goal
-
-pub returns : goal.returns
-returns c = once

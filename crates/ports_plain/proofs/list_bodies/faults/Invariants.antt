@@ -1,9 +1,0 @@
--- The items so far are the faults of the roots up to here.
-use Rattle.std.proofs.Common.{take, codes}
-use Rattle.std.specs.List.{filter_map}
-use Rattle.ports_plain.specs.ListBodies.{root_fault_body}
-use Rattle.ports_plain.specs.JsonText.{HasItems}
-use Rattle.ports_plain.proofs.list_bodies.faults.Given as goal
-
-abbrev pub invariant-loop-root : goal.invariant-loop-root
-invariant-loop-root l = HasItems l.out (codes "faults") (filter_map root_fault_body (take l.root-index l.roots))

@@ -1,9 +1,0 @@
-use Rattle.std.proofs.Common.{◌≡◌, length}
-use Rattle.ports_plain.specs.Spaces.{skip_spaces}
-use Rattle.ports_plain.proofs.spaces.without_first_spaces.Given as goal
-
-abbrev pub invariant-loop-first : goal.invariant-loop-first
-invariant-loop-first l = skip_spaces l.kept ≡ skip_spaces l.bytes
-
-abbrev pub decreases-loop-first : goal.decreases-loop-first
-decreases-loop-first l = length l.kept

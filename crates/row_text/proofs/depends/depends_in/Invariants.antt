@@ -1,9 +1,0 @@
--- What was read so far, with what is still read, is all of it.
-use Rattle.std.proofs.Common.{◌≡◌, ◌-◌}
-use Rattle.row_text.specs.Reads.{counted_items}
-use Rattle.row_text.specs.Ports.{depend}
-use Rattle.row_text.proofs.Walks.{with_front}
-use Rattle.row_text.proofs.depends.depends_in.Given as goal
-
-abbrev pub invariant-loop : goal.invariant-loop
-invariant-loop l = with_front l.found.items (counted_items depend (l.count - l.counter) l.rest) ≡ counted_items depend l.count l.bytes

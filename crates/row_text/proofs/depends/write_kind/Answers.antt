@@ -1,6 +1,0 @@
-use Rattle.std.proofs.lemmas.Result.{on_ok_weaker}
-use Rattle.row_text.proofs.PortBytes.{Adds-depend_kind}
-use Rattle.row_text.proofs.depends.write_kind.Goals as goal
-
-pub returns : goal.returns
-returns c = on_ok_weaker c.write_byte.result (Adds-depend_kind _ _ _ _ c.number_of.ensures) c.write_byte.ensures

@@ -1,6 +1,0 @@
-use Rattle.std.proofs.lemmas.Result.{on_ok_weaker}
-use Rattle.row_text.proofs.FaultNumbers.{Adds-fault_kind}
-use Rattle.row_text.proofs.faults.write_kind.Goals as goal
-
-pub returns : goal.returns
-returns c = on_ok_weaker c.write_byte.result (Adds-fault_kind _ _ _ _ c.number.ensures) c.write_byte.ensures
