@@ -9,9 +9,9 @@ use std::rc::Rc;
 /// A line with words put in. `None` if there are none to put in.
 type Put = Result<Option<String>, PureStop<FaultKind>>;
 
-/// `turns of HEADER on LINE`: the line with the words of each turn put in, with the units spent; of a fault
+/// `iterations of HEADER on LINE`: the line with the words of each iteration put in, with the units spent; of a fault
 /// its kind. A number after `within` is the limit of the budget.
-pub fn turns_of(alloc: Global, variables: &Env, given: &[Vec<u8>]) -> Result<Answer, Trouble> {
+pub fn iterations_of(alloc: Global, variables: &Env, given: &[Vec<u8>]) -> Result<Answer, Trouble> {
     let (limit, header, line) = match given {
         [header, line] => (UNITS, header, line),
         [header, line, limit] => (as_number(limit)?, header, line),
@@ -21,10 +21,10 @@ pub fn turns_of(alloc: Global, variables: &Env, given: &[Vec<u8>]) -> Result<Ans
     let mut budget = Budget::new(limit);
     let mut answer = Answer::new(alloc);
     match read_header(alloc, variables, header, &mut budget) {
-        Ok(turns) => {
-            let turns = Rc::new(alloc, turns)?;
-            for index in 0..turns.count() {
-                let loops = [Iteration::new(turns.clone()?, index)];
+        Ok(iterations) => {
+            let iterations = Rc::new(alloc, iterations)?;
+            for index in 0..iterations.count() {
+                let loops = [Iteration::new(iterations.clone()?, index)];
                 let put = put_words(alloc, variables, &loops, line, &mut budget);
                 add_put(&mut answer, put);
             }
@@ -44,7 +44,7 @@ fn add_put(answer: &mut Answer, put: Put) {
 }
 
 /// `put words into LINE of HEADER..`: the line with words put in, or `unchanged`; and the units spent. Of a
-/// fault its kind. The words are those of the first turn of each of these loops, the innermost last. A
+/// fault its kind. The words are those of the first iteration of each of these loops, the innermost last. A
 /// number after `within` is the limit of the budget.
 pub fn put_words_answer(
     alloc: Global,
@@ -67,7 +67,7 @@ pub fn put_words_answer(
     Ok(answer)
 }
 
-/// The line in the first turns of these loops.
+/// The line in the first iterations of these loops.
 fn put_in(
     alloc: Global,
     variables: &Env,
@@ -77,16 +77,19 @@ fn put_in(
 ) -> Result<Put, Trouble> {
     let mut loops = Vec::new(alloc);
     for header in headers {
-        loops.push(first_turn(alloc, variables, header)?)?;
+        loops.push(first_iteration(alloc, variables, header)?)?;
     }
     Ok(put_words(alloc, variables, loops.as_slice(), line, budget))
 }
 
-/// The first turn of a loop.
-fn first_turn(alloc: Global, variables: &Env, header: &[u8]) -> Result<Iteration, Trouble> {
+/// The first iteration of a loop.
+fn first_iteration(alloc: Global, variables: &Env, header: &[u8]) -> Result<Iteration, Trouble> {
     let mut budget = Budget::new(UNITS);
     match read_header(alloc, variables, as_text(header)?, &mut budget) {
-        Ok(turns) if turns.count() > 0 => Ok(Iteration::new(Rc::new(alloc, turns)?, 0)),
+        Ok(iterations) if iterations.count() > 0 => Ok(Iteration::new(
+            Rc::new(alloc, iterations)?,
+            0,
+        )),
         _ => Err(Trouble::NoCase),
     }
 }

@@ -104,7 +104,9 @@ impl Setup {
             "truth" | "truth within after" => {
                 truth_answer(alloc, variables, &mut self.world.files, given)
             }
-            "turns of on" | "turns of on within" => loops::turns_of(alloc, variables, given),
+            "iterations of on" | "iterations of on within" => loops::iterations_of(
+                alloc, variables, given,
+            ),
             "put words into" | "put words into of" => {
                 loops::put_words_answer(alloc, variables, false, given)
             }

@@ -27,7 +27,7 @@ module _ {M F S X : Type 0} (turn : S → X → Work M F S) where
   alone (Ok end) = refl
   alone (Err stop) = refl
 
-  -- a walk over one item is its turn
+  -- a walk over one item is its step
   pub each-one : (s : S) (x : X) (m : M) → each turn s (x ∷ []) m ≡ turn s x m
   unfolding each
   each-one s x m = alone (turn s x m)

@@ -130,11 +130,11 @@ pub shared-if : {A F : Type 0} (other : FileMap) (test : Bool) (one more one' mo
 shared-if other true one more one' more' first second = first
 shared-if other false one more one' more' first second = second
 
-pub shared-each : {S X F : Type 0} (other : FileMap) (turn again : S → X → Work Account F S) → ((s : S) (x : X) → Shared other (turn s x) (again s x)) → (s : S) (xs : List X) → Shared other (each turn s xs) (each again s xs)
+pub shared-each : {S X F : Type 0} (other : FileMap) (iteration again : S → X → Work Account F S) → ((s : S) (x : X) → Shared other (iteration s x) (again s x)) → (s : S) (xs : List X) → Shared other (each iteration s xs) (each again s xs)
 unfolding each
-shared-each other turn again shared s [] = shared-give other s
-shared-each other turn again shared s (x ∷ xs) =
-    shared-bind other (turn s x) (again s x) (λ next. each turn next xs) (λ next. each again next xs) (shared s x) (λ next. shared-each other turn again shared next xs)
+shared-each other iteration again shared s [] = shared-give other s
+shared-each other iteration again shared s (x ∷ xs) =
+    shared-bind other (iteration s x) (again s x) (λ next. each iteration next xs) (λ next. each again next xs) (shared s x) (λ next. shared-each other iteration again shared next xs)
 
 told-beside : {A F G : Type 0} (f : F → G) (log : Option (List Question)) (r : Result (A × Meter) (F × Meter)) → tell f (beside log r) ≡ beside log (tell f r)
 told-beside f log (Ok end) = refl
@@ -157,8 +157,8 @@ bind {other = other} {work = work} {again = again} {next = next} {onward = onwar
 pub either : {A F : Type 0} {other : FileMap} {one more one' more' : Work Account F A} (test : Bool) → Shared other one one' → Shared other more more' → Shared other (if test then one else more) (if test then one' else more')
 either {other = other} {one = one} {more = more} {one' = one'} {more' = more'} test first second = shared-if other test one more one' more' first second
 
-pub over : {S X F : Type 0} {other : FileMap} {turn again : S → X → Work Account F S} → ((s : S) (x : X) → Shared other (turn s x) (again s x)) → (s : S) (xs : List X) → Shared other (each turn s xs) (each again s xs)
-over {other = other} {turn = turn} {again = again} shared s xs = shared-each other turn again shared s xs
+pub over : {S X F : Type 0} {other : FileMap} {iteration again : S → X → Work Account F S} → ((s : S) (x : X) → Shared other (iteration s x) (again s x)) → (s : S) (xs : List X) → Shared other (each iteration s xs) (each again s xs)
+over {other = other} {iteration = iteration} {again = again} shared s xs = shared-each other iteration again shared s xs
 
 module _ (files other : FileMap) where
   pub shared-ask_has : (name : List ℕ) → Shared other (ask_has files name) (ask_has other name)

@@ -17,7 +17,7 @@ use Rattle.mk_paths.specs.World.{FileMap}
 use Rattle.mk_paths.specs.declared.search_path.Settings.{Settings}
 use Rattle.mk_files.specs.Questions.{Account}
 use Rattle.mk_eval.specs.declared.state.EvalState.{EvalState}
-use Rattle.mk_eval.specs.Lines.{Loops, Request, inside_turn}
+use Rattle.mk_eval.specs.Lines.{Loops, Request, inside_iteration}
 use Rattle.mk_eval.specs.Heads.{condition_holds, form_in}
 use Rattle.mk_eval.specs.Includes.{Form, OwnFile, PortFile, SubdirFile, SystemFile, NoForm, form_of, Place, Opened, deep_enough, name_or_fault, found, open_named, open_own, open_if_there, open_port, first_port, open_form, open_request}
 use Rattle.mk_eval.specs.Modules.{asks_modules, module_words, module_file, names_in_trees, opened_or, open_first, open_module}
@@ -26,7 +26,7 @@ use Rattle.mk_eval.specs.Meaning.{at, Entering, enter, open_line, include_module
 use Rattle.mk_eval.proofs.Steady as steady
 use Rattle.mk_eval.proofs.Steady.{Steady, steady-give, steady-pay}
 use Rattle.mk_eval.proofs.SteadyTexts.{steady-variable}
-use Rattle.mk_eval.proofs.SteadyLoops.{steady-perform, steady-head_text, steady-turns}
+use Rattle.mk_eval.proofs.SteadyLoops.{steady-perform, steady-head_text, steady-iterations}
 use Rattle.mk_eval.proofs.Shared.{Shared, shared-quietly, shared-give, shared-fail, shared-tell, shared-ask_read, shared-look_read, bind, either, over}
 use Rattle.mk_eval.proofs.SharedConditions.{shared-parts}
 
@@ -101,7 +101,7 @@ pub record EntersShared (other : FileMap) (entering again : Entering) : Type 0 w
 pub record AreShared {S : Type 0} (other : FileMap) (works again : LineWorks Account FaultAt S) : Type 0 where
   pub performs : (loops : Loops) (line : LogicalLine) (s : S) → Shared other (works.performs loops line s) (again.performs loops line s)
   pub holds : (loops : Loops) (line : LogicalLine) (s : S) → Shared other (works.holds loops line s) (again.holds loops line s)
-  pub turns : (loops : Loops) (line : LogicalLine) (s : S) → Shared other (works.turns loops line s) (again.turns loops line s)
+  pub iterations : (loops : Loops) (line : LogicalLine) (s : S) → Shared other (works.iterations loops line s) (again.iterations loops line s)
   pub begins : (line : LogicalLine) → Shared other (works.begins line) (again.begins line)
 
 module _ {S : Type 0} (other : FileMap) (works again : LineWorks Account FaultAt S) (are : AreShared other works again) where
@@ -110,7 +110,7 @@ module _ {S : Type 0} (other : FileMap) (works again : LineWorks Account FaultAt
     shared-tree (LineTree line) loops s = are.performs loops line s
     shared-tree (ChoiceTree line block branches) loops s = bind (are.holds loops line s) (λ held. either held (shared-block block loops s) (shared-branches branches loops s))
     shared-tree (LoopTree line block) loops s =
-        bind (are.turns loops line s) (λ turns. over (λ s turn. bind (are.begins line) (λ _. shared-block block (inside_turn loops turn) s)) s turns)
+        bind (are.iterations loops line s) (λ iterations. over (λ s iteration. bind (are.begins line) (λ _. shared-block block (inside_iteration loops iteration) s)) s iterations)
 
     pub shared-block : (block : Block) (loops : Loops) (s : S) → Shared other (execute works block loops s) (execute again block loops s)
     shared-block EmptyBlock loops s = shared-give other s
@@ -153,7 +153,7 @@ module _ (other : FileMap) (entering again : Entering) (enters : EntersShared ot
   works-shared place = record {
     performs = shared-perform_line place;
     holds = λ loops line state. shared-tell (at place.file line.line) (shared-judge place.files other place.makefile state.variables loops line.text);
-    turns = λ loops line state. shared-tell (at place.file line.line) (shared-quietly other (steady-turns state.variables loops line.text));
+    iterations = λ loops line state. shared-tell (at place.file line.line) (shared-quietly other (steady-iterations state.variables loops line.text));
     begins = λ line. shared-tell (at place.file line.line) (shared-quietly other steady-pay);
   }
 

@@ -81,10 +81,10 @@ pub steady-choice : {A F : Type 0} (test : Bool) (one other : Work Meter F A) �
 steady-choice true one other first second = first
 steady-choice false one other first second = second
 
-pub steady-each : {S X F : Type 0} (turn : S → X → Work Meter F S) → ((s : S) (x : X) → Steady (turn s x)) → (s : S) (xs : List X) → Steady (each turn s xs)
+pub steady-each : {S X F : Type 0} (iteration : S → X → Work Meter F S) → ((s : S) (x : X) → Steady (iteration s x)) → (s : S) (xs : List X) → Steady (each iteration s xs)
 unfolding each
-steady-each turn steady s [] = steady-give s
-steady-each turn steady s (x ∷ xs) = steady-bind (turn s x) (λ next. each turn next xs) (steady s x) (λ next. steady-each turn steady next xs)
+steady-each iteration steady s [] = steady-give s
+steady-each iteration steady s (x ∷ xs) = steady-bind (iteration s x) (λ next. each iteration next xs) (steady s x) (λ next. steady-each iteration steady next xs)
 
 module _ {A F G : Type 0} (f : F → G) (work : Work Meter F A) (steady : Steady work) where
   pub told_left : (r : Result (A × Meter) (F × Meter)) → left (tell f r) ≡ left r
@@ -172,5 +172,5 @@ bind {work = work} {next = next} first second = steady-bind work next first seco
 pub either : {A F : Type 0} {one other : Work Meter F A} (test : Bool) → Steady one → Steady other → Steady (if test then one else other)
 either {one = one} {other = other} test first second = steady-if test one other first second
 
-pub over : {S X F : Type 0} {turn : S → X → Work Meter F S} → ((s : S) (x : X) → Steady (turn s x)) → (s : S) (xs : List X) → Steady (each turn s xs)
-over {turn = turn} steady s xs = steady-each turn steady s xs
+pub over : {S X F : Type 0} {iteration : S → X → Work Meter F S} → ((s : S) (x : X) → Steady (iteration s x)) → (s : S) (xs : List X) → Steady (each iteration s xs)
+over {iteration = iteration} steady s xs = steady-each iteration steady s xs

@@ -13,7 +13,7 @@ use Rattle.mk_loop.specs.LoopWords.{LoopWords, word_named}
 use Rattle.mk_loop.specs.BodyLine.{SoFar, Puts, nothing, with_loop_word, finished, modified_word, put_reference, put_unit, put_by, put, where_closed, put_words}
 use Rattle.mk_loop.specs.Header.{header_parts, formed, header}
 use Rattle.mk_eval.specs.Lines.{Loops, store, assign, assign_to, direct, execute_kind, put_in, read_again, execute_in, perform_kind, perform}
-use Rattle.mk_eval.specs.Heads.{head_text, turns}
+use Rattle.mk_eval.specs.Heads.{head_text, iterations}
 use Rattle.mk_eval.proofs.Steady.{Steady, steady-give, steady-fail, steady-pay, bind, either, over}
 use Rattle.mk_eval.proofs.SteadyTexts.{steady-bounded, steady-expand, steady-expand_now, steady-modified_by}
 
@@ -145,5 +145,5 @@ steady-head_text variables loops (AssignmentLine operator name rest) = steady-fa
 steady-head_text variables loops DependencyLine = steady-fail kinds.Block
 steady-head_text variables loops BadLine = steady-fail kinds.Block
 
-pub steady-turns : (variables : Variables) (loops : Loops) (line : List ℕ) → Steady (turns variables loops line)
-steady-turns variables loops line = bind (steady-head_text variables loops (line_kind line)) (steady-header variables)
+pub steady-iterations : (variables : Variables) (loops : Loops) (line : List ℕ) → Steady (iterations variables loops line)
+steady-iterations variables loops line = bind (steady-head_text variables loops (line_kind line)) (steady-header variables)

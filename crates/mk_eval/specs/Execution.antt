@@ -6,14 +6,14 @@ use Rattle.mk_text.specs.Lines.{LogicalLine}
 use Rattle.mk_ast.specs.Trees.{Tree, LineTree, ChoiceTree, LoopTree, Block, EmptyBlock, MoreBlock, Branches}
 use Rattle.mk_ast.specs.Trees.{NoBranches, ElifBranch, ElseBranch}
 use Rattle.mk_loop.specs.LoopWords.{LoopWords}
-use Rattle.mk_eval.specs.Lines.{Loops, inside_turn}
+use Rattle.mk_eval.specs.Lines.{Loops, inside_iteration}
 
 -- What lines do, within loops: what a line does that frames no block; whether the condition of a line holds;
 -- the iterations of the loop that a line begins; and the start of one iteration.
 pub record LineWorks (M F S : Type 0) : Type 0 where
   pub performs : Loops → LogicalLine → S → Work M F S
   pub holds : Loops → LogicalLine → S → Work M F Bool
-  pub turns : Loops → LogicalLine → S → Work M F (List LoopWords)
+  pub iterations : Loops → LogicalLine → S → Work M F (List LoopWords)
   pub begins : LogicalLine → Work M F (Unit {0})
 
 -- an iteration of a loop: it begins, and then the body is executed within these loops
@@ -21,8 +21,8 @@ abbrev pub iteration_in : {M F S : Type 0} → Work M F (Unit {0}) → (Loops �
 iteration_in begins body loops s = begins >>= λ _. body loops s
 
 -- the same for the iteration with these words, of a loop that is in other loops
-abbrev pub turn_of : {M F S : Type 0} → Work M F (Unit {0}) → (Loops → S → Work M F S) → Loops → S → LoopWords → Work M F S
-turn_of begins body loops s turn = iteration_in begins body (inside_turn loops turn) s
+abbrev pub iteration_of : {M F S : Type 0} → Work M F (Unit {0}) → (Loops → S → Work M F S) → Loops → S → LoopWords → Work M F S
+iteration_of begins body loops s iteration = iteration_in begins body (inside_iteration loops iteration) s
 
 -- the first branch if its condition holds, and otherwise the others
 abbrev pub chosen : {M F S : Type 0} → Work M F Bool → Work M F S → Work M F S → Work M F S
@@ -34,7 +34,7 @@ abbrev mutual
   execute_tree works (ChoiceTree line block branches) loops s =
       chosen (works.holds loops line s) (execute works block loops s) (execute_branches works branches loops s)
   execute_tree works (LoopTree line block) loops s =
-      works.turns loops line s >>= λ turns. each (turn_of (works.begins line) (execute works block) loops) s turns
+      works.iterations loops line s >>= λ iterations. each (iteration_of (works.begins line) (execute works block) loops) s iterations
 
   -- the trees of a block, one after another
   pub execute : {M F S : Type 0} → LineWorks M F S → Block → Loops → S → Work M F S

@@ -50,5 +50,5 @@ condition_holds files makefile variables loops line =
     >>= λ text. parts_truth variables files makefile (option_map (λ form. (form, text)) (form_in (line_kind line)))
 
 -- the iterations of the loop that begins with a line
-abbrev pub turns : Variables → Loops → List ℕ → Work Meter FaultKind (List LoopWords)
-turns variables loops line = head_text variables loops (line_kind line) >>= header variables
+abbrev pub iterations : Variables → Loops → List ℕ → Work Meter FaultKind (List LoopWords)
+iterations variables loops line = head_text variables loops (line_kind line) >>= header variables

@@ -13,10 +13,10 @@ use Rattle.mk_ast.specs.declared.kinds.LineKind.{LineKind}
 use Rattle.mk_ast.specs.declared.kinds.Operator.{Operator}
 use Rattle.mk_ast.specs.Kinds.{line_kind, shown_kind}
 use Rattle.mk_env.specs.Texts.{Variables}
-use Rattle.mk_loop.specs.declared.turn.Iteration.{Iteration}
-use Rattle.mk_loop.specs.declared.turn.Iterations.{Iterations}
+use Rattle.mk_loop.specs.declared.iterations.Iteration.{Iteration}
+use Rattle.mk_loop.specs.declared.iterations.Iterations.{Iterations}
 use Rattle.mk_loop.specs.Places.{made_or_line}
-use Rattle.mk_loop.specs.Scopes.{turns_in}
+use Rattle.mk_loop.specs.Scopes.{iterations_in}
 use Rattle.mk_paths.specs.World.{FileMap}
 use Rattle.mk_paths.specs.FilesView.{FilesView}
 use Rattle.mk_paths.specs.FileName.{resolved, name_under}
@@ -85,8 +85,8 @@ GivesHeader head result old new =
 -- the iterations are given of the loop that such a line begins
 abbrev pub BeginsLoop : Head → Result (Rc Iterations Global) (PureStop FaultKind) → Meter → Meter → Type 0
 BeginsLoop head result old new =
-    GivesPurely (λ turns. turns_in turns.value) result new
-    (heads.turns head.variables.now (loops_of head.loops.now) head.text.now old)
+    GivesPurely (λ iterations. iterations_in iterations.value) result new
+    (heads.iterations head.variables.now (loops_of head.loops.now) head.text.now old)
 
 -- the condition of such a line, in the makefile of this name
 abbrev pub condition : List ℕ → Head → FileMap → Work Account FaultKind Bool

@@ -76,8 +76,8 @@ abbrev pub Loops : Type 0
 Loops = Option LoopWords
 
 -- the loops around a line of a loop's body, in the iteration with these words
-abbrev pub inside_turn : Loops → LoopWords → Loops
-inside_turn loops turn = Some (turn ++ unwrap_or loops [])
+abbrev pub inside_iteration : Loops → LoopWords → Loops
+inside_iteration loops iteration = Some (iteration ++ unwrap_or loops [])
 
 -- a text with the words of the loops around it put in; if no loop is around it, it isn't looked at
 abbrev pub put_in : Variables → Loops → List ℕ → Work Meter FaultKind (List ℕ)

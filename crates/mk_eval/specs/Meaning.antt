@@ -18,7 +18,7 @@ use Rattle.mk_paths.specs.FilesView.{Question}
 use Rattle.mk_files.specs.Questions.{Account, quietly, look_read}
 use Rattle.mk_eval.specs.Expanded.{Expanded}
 use Rattle.mk_eval.specs.Lines.{Loops, perform}
-use Rattle.mk_eval.specs.Heads.{condition_holds, turns}
+use Rattle.mk_eval.specs.Heads.{condition_holds, iterations}
 use Rattle.mk_eval.specs.Includes.{Place, Opened, open_request}
 use Rattle.mk_eval.specs.Modules.{asks_modules, module_words, open_module}
 use Rattle.mk_eval.specs.Execution.{LineWorks, execute}
@@ -79,7 +79,7 @@ abbrev pub works_at : Entering → Place → LineWorks Account FaultAt EvalState
 works_at entering place = record {
   performs = perform_line entering place;
   holds = λ loops line state. blamed_at place line (condition_holds place.files place.makefile state.variables loops line.text);
-  turns = λ loops line state. blamed_at place line (quietly (turns state.variables loops line.text));
+  iterations = λ loops line state. blamed_at place line (quietly (iterations state.variables loops line.text));
   begins = λ line. blamed_at place line (quietly pay);
 }
 

@@ -12,15 +12,15 @@ use Rattle.mk_base.specs.Outcome.{Work, tell}
 use Rattle.mk_base.specs.Stops.{Gives, GivesPurely}
 use Rattle.mk_text.specs.Lines.{LogicalLine}
 use Rattle.mk_env.specs.Texts.{Variables}
-use Rattle.mk_loop.specs.declared.turn.Iteration.{Iteration}
-use Rattle.mk_loop.specs.declared.turn.Iterations.{Iterations}
+use Rattle.mk_loop.specs.declared.iterations.Iteration.{Iteration}
+use Rattle.mk_loop.specs.declared.iterations.Iterations.{Iterations}
 use Rattle.mk_loop.specs.LoopWords.{LoopWords}
-use Rattle.mk_loop.specs.Scopes.{turns_in}
+use Rattle.mk_loop.specs.Scopes.{iterations_in}
 use Rattle.mk_paths.specs.World.{FileMap}
 use Rattle.mk_paths.specs.FilesView.{FilesView}
 use Rattle.mk_files.specs.Questions.{Account, account}
 use Rattle.mk_eval.specs.Lines as lines
-use Rattle.mk_eval.specs.Lines.{Request, inside_turn}
+use Rattle.mk_eval.specs.Lines.{Request, inside_iteration}
 use Rattle.mk_eval.specs.Heads as heads
 use Rattle.mk_eval.specs.Includes.{Opened}
 use Rattle.mk_eval.specs.Modules as modules
@@ -71,8 +71,8 @@ Performs loops text old new result =
 abbrev pub LoopAt : ExecutedFile → LogicalLine → EvalState → Result (Rc Iterations Global) (PureStop FaultAt)
     → Meter → Meter → Type 0
 LoopAt here line state result old new =
-    GivesPurely (λ turns. turns_in turns.value) result new
-    (tell (meaning.at here.file.now line.line) (heads.turns state.variables (loops_of here.loops.now) line.text old))
+    GivesPurely (λ iterations. iterations_in iterations.value) result new
+    (tell (meaning.at here.file.now line.line) (heads.iterations state.variables (loops_of here.loops.now) line.text old))
 
 -- a unit is spent at a line of an executed file, or that is a fault there
 abbrev pub PaysAt : {R : Type 0} → ExecutedLine → Result R (PureStop FaultAt) → Meter → Meter → Type 0
@@ -80,10 +80,10 @@ PaysAt line result old new = GivesPurely (λ _. tt) result new (tell (meaning.at
 
 -- if a function succeeds, it gives these loops with one more inside them, at its iteration with this index
 abbrev pub GoesInside : {F : Type 0} → List Iteration → Iterations → ℕ → Result (Vec Iteration Global) F → Type 0
-GoesInside loops turns index result =
+GoesInside loops iterations index result =
     IfOk result
-    (λ inner. (words : LoopWords) × (slice_get (turns_in turns) index ≡ Some words)
-    × (loops_of inner.items ≡ inside_turn (loops_of loops) words))
+    (λ inner. (words : LoopWords) × (slice_get (iterations_in iterations) index ≡ Some words)
+    × (loops_of inner.items ≡ inside_iteration (loops_of loops) words))
 
 -- whether a condition holds is told as this work tells it, among the files, from one budget and files to the next
 abbrev pub Judges : {F : Type 0} → (FileMap → Work Account F Bool) → Result Bool (Stop F)

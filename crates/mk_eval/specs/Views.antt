@@ -4,9 +4,9 @@ use Rattle.std.proofs.Common.{ap}
 use Rattle.std.specs.Borrow.{Bor}
 use Rattle.std.specs.declared.alloc.Global.{Global}
 use Rattle.mk_paths.specs.World.{FileMap}
-use Rattle.mk_loop.specs.declared.turn.Iteration.{Iteration}
-use Rattle.mk_loop.specs.Scopes.{turn_words, words_in, words_in-inside, words_in-alike}
-use Rattle.mk_eval.specs.Lines.{Loops, inside_turn}
+use Rattle.mk_loop.specs.declared.iterations.Iteration.{Iteration}
+use Rattle.mk_loop.specs.Scopes.{iteration_words, words_in, words_in-inside, words_in-alike}
+use Rattle.mk_eval.specs.Lines.{Loops, inside_iteration}
 use Rattle.mk_eval.specs.Includes.{Place, File}
 use Rattle.mk_eval.specs.declared.includes.ExecutedFile.{ExecutedFile}
 use Rattle.mk_eval.specs.declared.includes.Included.{Included}
@@ -14,16 +14,16 @@ use Rattle.mk_eval.specs.declared.includes.Included.{Included}
 -- the loops around a line, of which the innermost is the last
 abbrev pub loops_of : List Iteration → Loops
 loops_of [] = None
-loops_of (turn ∷ loops) = Some (words_in (turn ∷ loops))
+loops_of (iteration ∷ loops) = Some (words_in (iteration ∷ loops))
 
 -- the loops with one more inside them, at this iteration
-pub loops_of-inside : (loops : List Iteration) (turn : Iteration)
-    → loops_of (loops ++ turn ∷ []) ≡ inside_turn (loops_of loops) (turn_words turn)
-loops_of-inside [] turn = ap Some (words_in-inside [] turn)
-loops_of-inside (outer ∷ loops) turn = ap Some (words_in-inside (outer ∷ loops) turn)
+pub loops_of-inside : (loops : List Iteration) (iteration : Iteration)
+    → loops_of (loops ++ iteration ∷ []) ≡ inside_iteration (loops_of loops) (iteration_words iteration)
+loops_of-inside [] iteration = ap Some (words_in-inside [] iteration)
+loops_of-inside (outer ∷ loops) iteration = ap Some (words_in-inside (outer ∷ loops) iteration)
 
 -- loops are the same around a line if each has the words of the other's
-pub loops_of-alike : (loops others : List Iteration) → map turn_words loops ≡ map turn_words others
+pub loops_of-alike : (loops others : List Iteration) → map iteration_words loops ≡ map iteration_words others
     → loops_of loops ≡ loops_of others
 loops_of-alike [] [] same = refl
 loops_of-alike [] (other ∷ others) same = cc

@@ -7,10 +7,10 @@ ghost use Rattle.mk_eval.specs.Heads as heads;
 ghost use Rattle.mk_eval.specs.LineParts.{PutsIn, GivesHead, GivesHeader, BeginsLoop, condition};
 ghost use Rattle.mk_eval.specs.Steps.{Pays, Judges};
 
-use mk_cond_tree::Call;
 use mk_ast::{Directive, LineKind, line_kind};
 use mk_base::{Budget, FaultKind, PureStop, Stop};
 use mk_cond::{Form, Setting, directive_truth};
+use mk_cond_tree::Call;
 use mk_env::Env;
 use mk_loop::{Iteration, Iterations, put_words, read_header};
 use mk_paths::{Name, Names};
@@ -144,7 +144,7 @@ pub(crate) fn header_text(
 }
 
 /// The iterations of the loop that this line begins.
-pub(crate) fn loop_turns(
+pub(crate) fn loop_iterations(
     alloc: Global,
     head: Head<'_>,
     budget: &mut Budget,
@@ -153,6 +153,6 @@ pub(crate) fn loop_turns(
     ensures later { IsLater budget.old budget.new }
 {
     let header = header_text(alloc, head, budget)?;
-    let turns = read_header(alloc, head.variables, header.as_str(), budget)?;
-    Ok(Rc::new(alloc, turns)?)
+    let iterations = read_header(alloc, head.variables, header.as_str(), budget)?;
+    Ok(Rc::new(alloc, iterations)?)
 }

@@ -4,5 +4,5 @@ pub mod UnitPlaces
 pub mod Paying
 pub mod PassSteps
 pub mod WholeLine
-pub mod TurnSteps
+pub mod IterationSteps
 pub mod NameSteps

@@ -28,7 +28,7 @@ use Rattle.mk_loop.specs.LoopWords.{LoopWords, is_reference, word_of, word_named
 use Rattle.mk_loop.specs.BodyLine.{SoFar, nothing, as_written, with_loop_word, put_reference, put}
 use Rattle.mk_loop.specs.Joinings.{so_far}
 use Rattle.mk_loop.specs.Places.{Staying, Changing, Left, Within, mark_of, surrounds, IsLeft, close_reference, goes, closes_first, closes, surround_of, here, HasAsciiMark, IsKeptReference, IsPlaced, HasLeft, ContinuesPass, NameEnds, EndsName}
-use Rattle.mk_loop.proofs.Steps.{BeginsWith, begins-with, closes-left, begins-marked, turn, goes-unit, goes-closed, stays-marked, replaced-paid, replaced-unpaid, goes-changing}
+use Rattle.mk_loop.proofs.Steps.{BeginsWith, begins-with, closes-left, begins-marked, iteration, goes-unit, goes-closed, stays-marked, replaced-paid, replaced-unpaid, goes-changing}
 
 -- further bytes as they are written
 written-on : (text : List ℕ) (line : List ℕ) (a b c : ℕ) → a ≤ b → b ≤ c → (text ++ slice_range line a b) ++ slice_range line b c ≡ text ++ slice_range line a c
@@ -157,7 +157,7 @@ module _ (words : LoopWords) (variables : Variables) (line : List ℕ) where
 
   -- past a unit that stays as it is written
   pub pass-on : (pass : Pass) (end : ℕ) (unit : TextUnit) (left : Left) (m : Meter) → IsPlaced line pass → pass.at < length line → OccursAt line pass.at end unit
-      → closes pass (get_or line pass.at 0) ≡ false → ((before : SoFar) → turn words variables before unit m ≡ Ok (as_written before (source unit), m)) → HasLeft line pass left
+      → closes pass (get_or line pass.at 0) ≡ false → ((before : SoFar) → iteration words variables before unit m ≡ Ok (as_written before (source unit), m)) → HasLeft line pass left
       → ContinuesPass words variables line pass left m (Ok (record pass { at = end })) m
   pass-on pass end unit left m placed near standing other same stands =
       let begins = begin pass left unit end near standing other stands in (
@@ -231,7 +231,7 @@ module _ (words : LoopWords) (variables : Variables) (line : List ℕ) where
   pass-put pass behind left unit written name word m m' paid result is named pays begins gives around copied at stands =
       let whole : goes words variables left (here line pass) m ≡ after (with_loop_word (here line pass) word m') (λ next' m''. goes words variables begins.more next' m'') =
       ap (λ l. goes words variables l (here line pass) m) begins.is ∙ goes-unit words variables unit begins.more (here line pass) m
-      ∙ ap (λ u. after (turn words variables (here line pass) u m) (λ next' m''. goes words variables begins.more next' m'')) is
+      ∙ ap (λ u. after (iteration words variables (here line pass) u m) (λ next' m''. goes words variables begins.more next' m'')) is
       ∙ ap (λ found. after (put_reference variables (put words variables) (here line pass) written None found m) (λ next' m''. goes words variables begins.more next' m'')) named
       ∙ ap (λ r. after r (λ next' m''. goes words variables begins.more next' m'')) (replaced-paid words variables (here line pass) written None word m m' paid pays) in
       put-end pass behind left m m' result unit begins (with_loop_word (here line pass) word m') whole gives around copied at stands
@@ -264,7 +264,7 @@ module _ (words : LoopWords) (variables : Variables) (line : List ℕ) where
   pass-unpaid pass left unit rest written name modifiers word m m' stop is named begins stops =
       StopsPurelyAt-whole stop m' (pay m) (goes words variables left (here line pass) m)
       (λ end fails. ap (λ l. goes words variables l (here line pass) m) begins.is ∙ goes-unit words variables unit begins.more (here line pass) m
-      ∙ ap (λ u. after (turn words variables (here line pass) u m) (λ next' m''. goes words variables begins.more next' m'')) is
+      ∙ ap (λ u. after (iteration words variables (here line pass) u m) (λ next' m''. goes words variables begins.more next' m'')) is
       ∙ ap (λ found. after (put_reference variables (put words variables) (here line pass) written modifiers found m) (λ next' m''. goes words variables begins.more next' m'')) named
       ∙ ap (λ r. after r (λ next' m''. goes words variables begins.more next' m'')) (replaced-unpaid words variables (here line pass) written modifiers word m end fails))
       stops

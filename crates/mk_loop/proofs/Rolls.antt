@@ -58,19 +58,19 @@ all-small text =
     let together = units-together text in
     λ k d lt. parts-small _ (length text) (together k d lt) (near k d lt)
 
-module _ {M F S X : Type 0} (turn other : S → X → Work M F S) where
-  same-after : (xs : List X) (r : Result (S × M) (F × M)) → ((s : S) (m : M) → each turn s xs m ≡ each other s xs m)
-      → after r (λ next. each turn next xs) ≡ after r (λ next. each other next xs)
+module _ {M F S X : Type 0} (iteration other : S → X → Work M F S) where
+  same-after : (xs : List X) (r : Result (S × M) (F × M)) → ((s : S) (m : M) → each iteration s xs m ≡ each other s xs m)
+      → after r (λ next. each iteration next xs) ≡ after r (λ next. each other next xs)
   same-after xs (Ok end) h = h end.0 end.1
   same-after xs (Err end) h = refl
 
-  -- walks whose turns are the same are the same
-  pub each-same : (xs : List X) → All (λ x. (s : S) (m : M) → turn s x m ≡ other s x m) xs → (s : S) (m : M) → each turn s xs m ≡ each other s xs m
+  -- walks whose steps are the same are the same
+  pub each-same : (xs : List X) → All (λ x. (s : S) (m : M) → iteration s x m ≡ other s x m) xs → (s : S) (m : M) → each iteration s xs m ≡ each other s xs m
   unfolding each
   each-same [] h s m = refl
   each-same (x ∷ xs) h s m =
-      ap (λ r. after r (λ next. each turn next xs)) (All-head (λ x'. (s' : S) (m' : M) → turn s' x' m' ≡ other s' x' m') x xs h s m)
-      ∙ same-after xs (other s x m) (each-same xs (All-tail (λ x'. (s' : S) (m' : M) → turn s' x' m' ≡ other s' x' m') x xs h))
+      ap (λ r. after r (λ next. each iteration next xs)) (All-head (λ x'. (s' : S) (m' : M) → iteration s' x' m' ≡ other s' x' m') x xs h s m)
+      ∙ same-after xs (other s x m) (each-same xs (All-tail (λ x'. (s' : S) (m' : M) → iteration s' x' m' ≡ other s' x' m') x xs h))
 
 -- two ways to put words in that agree on shorter texts
 abbrev pub AgreeBelow : ℕ → Puts → Puts → Type 0

@@ -135,15 +135,15 @@ after-twice (Err end) first second = refl
 
 module _ (words : LoopWords) (variables : Variables) where
   -- a unit with the words put in
-  abbrev pub turn : SoFar → TextUnit → Work Meter FaultKind SoFar
-  turn = put_unit words variables (put words variables)
+  abbrev pub iteration : SoFar → TextUnit → Work Meter FaultKind SoFar
+  iteration = put_unit words variables (put words variables)
 
-  pub goes-unit : (unit : TextUnit) (left : Left) (here : SoFar) (m : Meter) → goes words variables (with_unit unit left) here m ≡ after (turn here unit m) (λ next m'. goes words variables left next m')
+  pub goes-unit : (unit : TextUnit) (left : Left) (here : SoFar) (m : Meter) → goes words variables (with_unit unit left) here m ≡ after (iteration here unit m) (λ next m'. goes words variables left next m')
   unfolding each
-  goes-unit unit (Outermost units) here m = after-twice (turn here unit m) (λ next. each turn next units) finished
+  goes-unit unit (Outermost units) here m = after-twice (iteration here unit m) (λ next. each iteration next units) finished
   goes-unit unit (Within units surround left) here m =
-      ap (λ r. after r (λ next m'. goes words variables left next m')) (after-twice (turn here unit m) (λ next. each turn next units) (close_reference variables surround))
-      ∙ after-twice (turn here unit m) (λ next m'. after (each turn next units m') (close_reference variables surround)) (λ next m'. goes words variables left next m')
+      ap (λ r. after r (λ next m'. goes words variables left next m')) (after-twice (iteration here unit m) (λ next. each iteration next units) (close_reference variables surround))
+      ∙ after-twice (iteration here unit m) (λ next m'. after (each iteration next units m') (close_reference variables surround)) (λ next m'. goes words variables left next m')
 
   pub goes-closed : (surround : Surround) (left : Left) (here : SoFar) (m : Meter) → goes words variables (Within [] surround left) here m ≡ after (close_reference variables surround here m) (λ next m'. goes words variables left next m')
   unfolding each
@@ -154,17 +154,17 @@ module _ (words : LoopWords) (variables : Variables) where
   goes-nothing here m = refl
 
   stays-two : (a b mark : ℕ) (units : List TextUnit) (here : SoFar) (m : Meter) → cut (sources units) ≡ (units, [])
-      → stays (put words variables) here (a ∷ b ∷ sources units ++ mark ∷ []) m ≡ after (each turn (as_written here (a ∷ b ∷ [])) units m) (close_reference variables (Staying mark))
+      → stays (put words variables) here (a ∷ b ∷ sources units ++ mark ∷ []) m ≡ after (each iteration (as_written here (a ∷ b ∷ [])) units m) (close_reference variables (Staying mark))
   stays-two a b mark units here m alone =
       ap (λ l. after (put words variables (as_written here (a ∷ b ∷ [])) l m) (λ found. give (as_written found (closing (a ∷ b ∷ sources units ++ mark ∷ []))))) (body-of a b mark (sources units))
       ∙ ap (λ l. after (put words variables (as_written here (a ∷ b ∷ [])) (sources units) m) (λ found. give (as_written found l))) (mark-of a b mark (sources units))
-      ∙ ap (λ r. after r (λ found. give (as_written found (mark ∷ [])))) (put-units words variables (as_written here (a ∷ b ∷ [])) (sources units) m ∙ ap (λ x. each turn (as_written here (a ∷ b ∷ [])) x.0 m) alone)
+      ∙ ap (λ r. after r (λ found. give (as_written found (mark ∷ [])))) (put-units words variables (as_written here (a ∷ b ∷ [])) (sources units) m ∙ ap (λ x. each iteration (as_written here (a ∷ b ∷ [])) x.0 m) alone)
 
   -- a reference with marks that stays
   pub stays-marked : (front : List ℕ) (mark : ℕ) (units : List TextUnit) (here : SoFar) (m : Meter) → AreMarks front mark → cut (sources units) ≡ (units, [])
-      → stays (put words variables) here (front ++ sources units ++ mark ∷ []) m ≡ after (each turn (as_written here front) units m) (close_reference variables (Staying mark))
+      → stays (put words variables) here (front ++ sources units ++ mark ∷ []) m ≡ after (each iteration (as_written here front) units m) (close_reference variables (Staying mark))
   stays-marked front mark units here m marks alone =
-      let P : List ℕ → Type 0 = λ f. stays (put words variables) here (f ++ sources units ++ mark ∷ []) m ≡ after (each turn (as_written here f) units m) (close_reference variables (Staying mark)) in
+      let P : List ℕ → Type 0 = λ f. stays (put words variables) here (f ++ sources units ++ mark ∷ []) m ≡ after (each iteration (as_written here f) units m) (close_reference variables (Staying mark)) in
       elim marks [
         | inl brace ↦ subst P (sym brace.0) (stays-two 36 123 mark units here m alone)
         | inr parenthesis ↦ subst P (sym parenthesis.0) (stays-two 36 40 mark units here m alone)
@@ -193,7 +193,7 @@ module _ (words : LoopWords) (variables : Variables) where
       ≡ goes words variables (Within units (Changing mark word here) left) nothing m
   goes-changing units mark word here left m alone =
       ap (λ r. after (after (after (after r finished) (λ text. modified_by variables text word)) (λ found. with_loop_word here found)) (λ next m'. goes words variables left next m'))
-      (put-units words variables nothing (sources units) m ∙ ap (λ x. each turn nothing x.0 m) alone)
+      (put-units words variables nothing (sources units) m ∙ ap (λ x. each iteration nothing x.0 m) alone)
       ∙ ap (λ r. after r (λ next m'. goes words variables left next m'))
-      (after-twice (after (each turn nothing units m) finished) (λ text. modified_by variables text word) (λ found. with_loop_word here found)
-      ∙ after-twice (each turn nothing units m) finished (λ text m'. after (modified_by variables text word m') (λ found. with_loop_word here found)))
+      (after-twice (after (each iteration nothing units m) finished) (λ text. modified_by variables text word) (λ found. with_loop_word here found)
+      ∙ after-twice (each iteration nothing units m) finished (λ text m'. after (modified_by variables text word m') (λ found. with_loop_word here found)))

@@ -34,24 +34,24 @@ formed (Some ([], rest)) = fail kinds.For
 formed (Some (name ∷ names, rest)) = give (name ∷ names, rest)
 
 -- this many iterations of these variables, with one word for each variable in each
-unfoldable pub turns_from : ℕ → List (List ℕ) → List (List ℕ) → List LoopWords
-turns_from zero names words = []
-turns_from (suc turns) names words = zip names words ∷ turns_from turns names (drop (length names) words)
+unfoldable pub iterations_from : ℕ → List (List ℕ) → List (List ℕ) → List LoopWords
+iterations_from zero names words = []
+iterations_from (suc iterations) names words = zip names words ∷ iterations_from iterations names (drop (length names) words)
 
 -- the iterations that words give
-abbrev pub turns_of : List (List ℕ) → List (List ℕ) → List LoopWords
-turns_of names words = turns_from (length words / length names) names words
+abbrev pub iterations_of : List (List ℕ) → List (List ℕ) → List LoopWords
+iterations_of names words = iterations_from (length words / length names) names words
 
 -- the same if no words are left over; words that are left over are a fault
-abbrev pub in_turns : List (List ℕ) → List (List ℕ) → Work Meter FaultKind (List LoopWords)
-in_turns names words = if length words % length names == 0 then give (turns_of names words) else fail kinds.For
+abbrev pub in_iterations : List (List ℕ) → List (List ℕ) → Work Meter FaultKind (List LoopWords)
+in_iterations names words = if length words % length names == 0 then give (iterations_of names words) else fail kinds.For
 
 -- The iterations of a loop with this header. Its form is tested first. Then what follows its `in` is
 -- expanded, and the words of that are counted.
 abbrev pub header : Variables → List ℕ → Work Meter FaultKind (List LoopWords)
 header variables text =
     formed (header_parts text (word_spans text)) >>= λ parts. expand variables parts.1
-    >>= λ found. in_turns parts.0 (words_of found)
+    >>= λ found. in_iterations parts.0 (words_of found)
 
 -- a function reads the names and the texts of this header, whatever the meter has counted
 abbrev pub ReadsForm : Result (Vec (String Global) Global × Bor (List ℕ)) (PureStop FaultKind) → List ℕ → Type 0

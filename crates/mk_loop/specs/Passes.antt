@@ -12,7 +12,7 @@ use Rattle.mk_loop.specs.Joinings.{so_far}
 use Rattle.mk_loop.specs.BodyLine.{with_loop_word, finished, put_words}
 use Rattle.mk_loop.specs.declared.joined_text.Joined.{Joined}
 use Rattle.mk_env.specs.Texts.{Variables}
-use Rattle.mk_loop.specs.declared.turn.Iteration.{Iteration}
+use Rattle.mk_loop.specs.declared.iterations.Iteration.{Iteration}
 use Rattle.mk_loop.specs.Scopes.{words_in}
 
 -- where a function succeeds, what it passes next stands in a part that stays, up to this mark

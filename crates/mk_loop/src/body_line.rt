@@ -5,8 +5,8 @@ ghost use Rattle.mk_ref.specs.Units.{left_of};
 ghost use Rattle.mk_env.specs.Refusals.{IsUncut};
 ghost use Rattle.mk_loop.specs.Passes.{PutsWords};
 
+use crate::iterations::Iteration;
 use crate::pass::{Body, Pass};
-use crate::turn::Iteration;
 use mk_base::{Budget, FaultKind, PureStop};
 use mk_env::Env;
 use mk_ref::{PiecesFault, pieces};

@@ -1,10 +1,10 @@
 //! The header of `.for`.
 ghost use Rattle.std.specs.Prelude.{◌≡◌, ◌<◌, length, IfOk};
 ghost use Rattle.mk_base.specs.Meter.{IsLater};
-ghost use Rattle.mk_loop.specs.Scopes.{turns_in, GivesTurns};
+ghost use Rattle.mk_loop.specs.Scopes.{iterations_in, GivesIterations};
 ghost use Rattle.mk_loop.specs.Header.{ReadsForm};
 
-use crate::turn::Iterations;
+use crate::iterations::Iterations;
 use mk_base::{Budget, FaultKind, PureStop};
 use mk_env::{Env, expand};
 use mk_text::words;
@@ -13,7 +13,7 @@ use std::alloc::Global;
 impl Iterations {
     /// How many iterations there are.
     pub fn count(&self) -> usize
-        ensures { result ≡ length (turns_in self.now) }
+        ensures { result ≡ length (iterations_in self.now) }
     {
         self.words.len() / self.names.len()
     }
@@ -37,7 +37,7 @@ pub fn read_header(
     budget: &mut Budget,
 ) -> Result<Iterations, PureStop<FaultKind>>
     ensures later { IsLater budget.old budget.new }
-    ensures gives { GivesTurns result variables.now header.now budget.old budget.new }
+    ensures gives { GivesIterations result variables.now header.now budget.old budget.new }
 {
     let (names, rest) = read_form(alloc, header)?;
     let text = expand(alloc, variables, rest, budget)?;

@@ -4,13 +4,13 @@
 
 mod body_line;
 mod header;
+mod iterations;
 mod joined_text;
 mod names;
 mod pass;
 mod scopes;
-mod turn;
 
 pub use body_line::put_words;
 pub use header::read_header;
+pub use iterations::{Iteration, Iterations};
 pub use scopes::inside;
-pub use turn::{Iteration, Iterations};

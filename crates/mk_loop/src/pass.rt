@@ -10,10 +10,10 @@ ghost use Rattle.mk_loop.specs.Places.{mark_of, surround_of, closes};
 ghost use Rattle.mk_loop.specs.Places.{HasAsciiMark, IsPlaced, PaysFor, StepsOn};
 ghost use Rattle.mk_loop.specs.Passes.{KeepsMark, BeginsChange, PutsWord, FinishesLine, EndsChange};
 
+use crate::iterations::Iteration;
 use crate::joined_text::Joined;
 use crate::names::name_end;
 use crate::scopes::word_in;
-use crate::turn::Iteration;
 use mk_base::{Budget, FaultKind, PureStop};
 use mk_env::{Env, modify};
 use mk_ref::{Opening, opening_at};

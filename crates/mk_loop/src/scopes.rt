@@ -2,31 +2,31 @@
 ghost use Rattle.std.specs.Prelude.{◌≡◌, ◌<◌, [], length, slice_get, Some};
 ghost use Rattle.std.specs.Option.{option_copied};
 ghost use Rattle.mk_loop.specs.LoopWords.{word_of};
-ghost use Rattle.mk_loop.specs.Scopes.{turn_words, turns_in, words_in, HasInnerTurn};
+ghost use Rattle.mk_loop.specs.Scopes.{iteration_words, iterations_in, words_in, HasInnerIteration};
 
-use crate::turn::{Iteration, Iterations};
+use crate::iterations::{Iteration, Iterations};
 use std::alloc::{AllocError, Global};
 use std::rc::Rc;
 
 impl Iteration {
     /// The iteration with this index, counted from 0.
-    pub fn new(turns: Rc<Iterations>, index: usize) -> Iteration
-        requires { index < length (turns_in turns.value) }
-        ensures { slice_get (turns_in turns.value) index ≡ Some (turn_words result) }
+    pub fn new(iterations: Rc<Iterations>, index: usize) -> Iteration
+        requires { index < length (iterations_in iterations.value) }
+        ensures { slice_get (iterations_in iterations.value) index ≡ Some (iteration_words result) }
     {
-        Iteration { turns, index }
+        Iteration { iterations, index }
     }
 
     /// The word of the variable of this name. If two variables have this name, the first counts.
     fn word(&self, name: &str) -> Option<&str>
-        ensures { option_copied result ≡ word_of (turn_words self.now) name.now }
+        ensures { option_copied result ≡ word_of (iteration_words self.now) name.now }
     {
-        let turns = &*self.turns;
-        let names = turns.names.as_slice();
-        let words = &turns.words.as_slice()[self.index * names.len()..];
+        let iterations = &*self.iterations;
+        let names = iterations.names.as_slice();
+        let words = &iterations.words.as_slice()[self.index * names.len()..];
         for at in 0..names.len() {
             if name == names[at].as_str() {
-                return Some(words[at].of(turns.text.as_str()));
+                return Some(words[at].of(iterations.text.as_str()));
             }
         }
         None
@@ -35,11 +35,11 @@ impl Iteration {
 
 /// A copy shares the texts of the loop. It fails if no more can share them.
 impl Clone for Iteration {
-    ghost is_clone = { λ turn copy. turn_words copy ≡ turn_words turn };
+    ghost is_clone = { λ iteration copy. iteration_words copy ≡ iteration_words iteration };
 
     fn clone(&self) -> Result<Iteration, AllocError> {
         Ok(Iteration {
-            turns: self.turns.clone()?,
+            iterations: self.iterations.clone()?,
             index: self.index,
         })
     }
@@ -49,15 +49,15 @@ impl Clone for Iteration {
 pub fn inside(
     alloc: Global,
     loops: &[Iteration],
-    turn: Iteration,
+    iteration: Iteration,
 ) -> Result<Vec<Iteration>, AllocError>
-    ensures { HasInnerTurn result loops.now turn }
+    ensures { HasInnerIteration result loops.now iteration }
 {
     let mut inner = Vec::new(alloc);
     for outer in loops {
         inner.push(outer.clone()?)?;
     }
-    inner.push(turn)?;
+    inner.push(iteration)?;
     Ok(inner)
 }
 

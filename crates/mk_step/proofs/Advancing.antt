@@ -10,26 +10,26 @@ use Rattle.mk_paths.specs.World.{FileMap}
 use Rattle.mk_files.specs.Questions.{Account, quietly}
 use Rattle.mk_loop.specs.LoopWords.{LoopWords}
 use Rattle.mk_eval.specs.declared.state.EvalState.{EvalState}
-use Rattle.mk_eval.specs.Lines.{inside_turn}
+use Rattle.mk_eval.specs.Lines.{inside_iteration}
 use Rattle.mk_eval.specs.Includes.{Place, File, Opened}
 use Rattle.mk_eval.specs.Modules.{asks_modules, module_words, open_module}
-use Rattle.mk_eval.specs.Execution.{LineWorks, execute, execute_tree, execute_branches, turn_of}
+use Rattle.mk_eval.specs.Execution.{LineWorks, execute, execute_tree, execute_branches, iteration_of}
 use Rattle.mk_eval.specs.Meaning.{enter, execute_read, blamed, blamed_at, open_line, include_module, include_modules, modules_after}
 use Rattle.mk_eval.specs.Steps.{entering_at}
 use Rattle.mk_eval.proofs.Stepping.{file_meaning-is}
-use Rattle.mk_step.specs.Machine.{Site, Frame, Lines, Later, Turns, Modules, Searches, StateAndFrames, place_at, works_in, entering_in, numbered_line, rest, read_lines, file_lines, opened_lines, before, modules_at, do_tree, found_or, next_module, advance}
+use Rattle.mk_step.specs.Machine.{Site, Frame, Lines, Later, Iterations, Modules, Searches, StateAndFrames, place_at, works_in, entering_in, numbered_line, rest, read_lines, file_lines, opened_lines, before, modules_at, do_tree, found_or, next_module, advance}
 
 pub after-after : {A B C F M : Type 0} (r : Result (A × M) (F × M)) (f : A → Work M F B) (g : B → Work M F C) → after (after r f) g ≡ after r (λ x. f x >>= g)
 after-after (Ok x) f g = refl
 after-after (Err stop) f g = refl
 
-pub each-nil : {M F S X : Type 0} (turn : S → X → Work M F S) (s : S) (m : M) → each turn s [] m ≡ Ok (s, m)
+pub each-nil : {M F S X : Type 0} (iteration : S → X → Work M F S) (s : S) (m : M) → each iteration s [] m ≡ Ok (s, m)
 unfolding each
-each-nil turn s m = refl
+each-nil iteration s m = refl
 
-each-cons : {M F S X : Type 0} (turn : S → X → Work M F S) (s : S) (x : X) (xs : List X) (m : M) → each turn s (x ∷ xs) m ≡ after (turn s x m) (λ next. each turn next xs)
+each-cons : {M F S X : Type 0} (iteration : S → X → Work M F S) (s : S) (x : X) (xs : List X) (m : M) → each iteration s (x ∷ xs) m ≡ after (iteration s x m) (λ next. each iteration next xs)
 unfolding each
-each-cons turn s x xs m = refl
+each-cons iteration s x xs m = refl
 
 -- what is still to be done once one thing is done
 abbrev pub onward : FileMap → List ℕ → StateAndFrames → Work Account FaultAt EvalState
@@ -107,10 +107,10 @@ module _ (files : FileMap) (makefile : List ℕ) (site : Site) (block : Block) (
   choice-by first later s (Err end) = refl
 
   loop-by : (line : LogicalLine) (body : Block) (s : EvalState) (r : Result (List LoopWords × Account) (FaultAt × Account))
-      → after (after (after r (λ turns. give (s, Turns site line.line body turns ∷ []))) left_by) (onward files makefile)
-      ≡ after (after (after r (λ turns. each (turn_of (works.begins line) (execute works body) site.loops) s turns)) (execute works block site.loops)) (rest files makefile frames)
-  loop-by line body s (Ok (turns, a)) =
-      sym (after-after (each (turn_of (works.begins line) (execute works body) site.loops) s turns a) (execute works block site.loops) (rest files makefile frames))
+      → after (after (after r (λ iterations. give (s, Iterations site line.line body iterations ∷ []))) left_by) (onward files makefile)
+      ≡ after (after (after r (λ iterations. each (iteration_of (works.begins line) (execute works body) site.loops) s iterations)) (execute works block site.loops)) (rest files makefile frames)
+  loop-by line body s (Ok (iterations, a)) =
+      sym (after-after (each (iteration_of (works.begins line) (execute works body) site.loops) s iterations a) (execute works block site.loops) (rest files makefile frames))
   loop-by line body s (Err end) = refl
 
   tree : (tree : Tree) (s : EvalState) (a : Account)
@@ -118,7 +118,7 @@ module _ (files : FileMap) (makefile : List ℕ) (site : Site) (block : Block) (
       ≡ after (after (execute_tree works tree site.loops s a) (execute works block site.loops)) (rest files makefile frames)
   tree (LineTree line) s a = line-by line s (blamed_at (place_at files makefile site) line (open_line (place_at files makefile site) site.loops line s) a)
   tree (ChoiceTree line first later) s a = choice-by first later s (works.holds site.loops line s a)
-  tree (LoopTree line body) s a = loop-by line body s (works.turns site.loops line s a)
+  tree (LoopTree line body) s a = loop-by line body s (works.iterations site.loops line s a)
 
 module _ (files : FileMap) (makefile : List ℕ) (site : Site) (frames : List Frame) where
   abbrev works' : LineWorks Account FaultAt EvalState
@@ -131,12 +131,12 @@ module _ (files : FileMap) (makefile : List ℕ) (site : Site) (frames : List Fr
   branch-by block more s (Ok (false, a)) = refl
   branch-by block more s (Err end) = refl
 
-  turn-by : (line : ℕ) (body : Block) (turn : LoopWords) (turns : List LoopWords) (s : EvalState) (r : Result (Unit {0} × Account) (FaultAt × Account))
-      → after (after r (λ _. give (s, Lines (record site { loops = inside_turn site.loops turn }) body ∷ Turns site line body turns ∷ frames))) (onward files makefile)
-      ≡ after (after (after r (λ _. execute works' body (inside_turn site.loops turn) s)) (λ next. each (turn_of (works'.begins (numbered_line line)) (execute works' body) site.loops) next turns)) (rest files makefile frames)
-  turn-by line body turn turns s (Ok (done, a)) =
-      sym (after-after (execute works' body (inside_turn site.loops turn) s a) (λ next. each (turn_of (works'.begins (numbered_line line)) (execute works' body) site.loops) next turns) (rest files makefile frames))
-  turn-by line body turn turns s (Err end) = refl
+  iteration-by : (line : ℕ) (body : Block) (iteration : LoopWords) (iterations : List LoopWords) (s : EvalState) (r : Result (Unit {0} × Account) (FaultAt × Account))
+      → after (after r (λ _. give (s, Lines (record site { loops = inside_iteration site.loops iteration }) body ∷ Iterations site line body iterations ∷ frames))) (onward files makefile)
+      ≡ after (after (after r (λ _. execute works' body (inside_iteration site.loops iteration) s)) (λ next. each (iteration_of (works'.begins (numbered_line line)) (execute works' body) site.loops) next iterations)) (rest files makefile frames)
+  iteration-by line body iteration iterations s (Ok (done, a)) =
+      sym (after-after (execute works' body (inside_iteration site.loops iteration) s a) (λ next. each (iteration_of (works'.begins (numbered_line line)) (execute works' body) site.loops) next iterations) (rest files makefile frames))
+  iteration-by line body iteration iterations s (Err end) = refl
 
 -- modules that are searched for
 module _ (files : FileMap) (makefile : List ℕ) (site : Site) (line : ℕ) (frames : List Frame) where
@@ -181,10 +181,10 @@ module _ (files : FileMap) (makefile : List ℕ) (frames : List Frame) where
   advances (Later site NoBranches) s a = refl
   advances (Later site (ElifBranch line block more)) s a = branch-by files makefile site frames block more s ((works_in files makefile site).holds site.loops line s a)
   advances (Later site (ElseBranch block)) s a = refl
-  advances (Turns site line body []) s a =
-      ap (λ r. after r (rest files makefile frames)) (sym (each-nil (turn_of ((works_in files makefile site).begins (numbered_line line)) (execute (works_in files makefile site) body) site.loops) s a))
-  advances (Turns site line body (turn ∷ turns)) s a =
-      turn-by files makefile site frames line body turn turns s ((works_in files makefile site).begins (numbered_line line) a)
-      ∙ ap (λ r. after r (rest files makefile frames)) (sym (each-cons (turn_of ((works_in files makefile site).begins (numbered_line line)) (execute (works_in files makefile site) body) site.loops) s turn turns a))
+  advances (Iterations site line body []) s a =
+      ap (λ r. after r (rest files makefile frames)) (sym (each-nil (iteration_of ((works_in files makefile site).begins (numbered_line line)) (execute (works_in files makefile site) body) site.loops) s a))
+  advances (Iterations site line body (iteration ∷ iterations)) s a =
+      iteration-by files makefile site frames line body iteration iterations s ((works_in files makefile site).begins (numbered_line line) a)
+      ∙ ap (λ r. after r (rest files makefile frames)) (sym (each-cons (iteration_of ((works_in files makefile site).begins (numbered_line line)) (execute (works_in files makefile site) body) site.loops) s iteration iterations a))
   advances (Modules site line) s a = words-by files makefile site line frames s (blamed (place_at files makefile site) line (quietly (module_words s.variables)) a)
   advances (Searches site line words) s a = searched files makefile site line frames words s a

@@ -18,11 +18,11 @@ use Rattle.mk_paths.specs.declared.file_name.NameFault.{NameFault}
 use Rattle.mk_paths.specs.World.{FileMap}
 use Rattle.mk_files.specs.Questions.{Account, beside, quietly, look_read}
 use Rattle.mk_eval.specs.declared.state.EvalState.{EvalState}
-use Rattle.mk_eval.specs.Lines.{inside_turn}
+use Rattle.mk_eval.specs.Lines.{inside_iteration}
 use Rattle.mk_eval.specs.Includes.{Place, File, Opened, found, open_named, open_if_there}
 use Rattle.mk_eval.specs.Modules.{asks_modules, module_words, module_file, names_in_trees, opened_or, open_first, open_module}
 use Rattle.mk_eval.specs.Meaning.{at, blamed, blamed_at, open_line}
-use Rattle.mk_step.specs.Machine.{Site, Frame, Lines, Later, Turns, Modules, Searches, StateAndFrames, place_at, works_in, numbered_line, read_lines, file_lines, opened_lines, before, modules_at, do_tree, found_or, next_module, advance}
+use Rattle.mk_step.specs.Machine.{Site, Frame, Lines, Later, Iterations, Modules, Searches, StateAndFrames, place_at, works_in, numbered_line, read_lines, file_lines, opened_lines, before, modules_at, do_tree, found_or, next_module, advance}
 use Rattle.mk_step.specs.Costs.{Costs, frame_weight, weight, may_follow}
 use Rattle.mk_step.proofs.Spending.{Grows, Spends, grows-advance}
 
@@ -162,14 +162,14 @@ module _ (files : FileMap) (makefile : List ℕ) (site : Site) where
   choice-by first later s (Err end) = tt
 
   loop-by : (line : LogicalLine) (body : Block) (s : EvalState) (r : Result (List LoopWords × Account) (FaultAt × Account))
-      → WeighsAtMost 2 (after r (λ turns. give (s, Turns site line.line body turns ∷ [])))
-  loop-by line body s (Ok (turns, a)) = omega arith
+      → WeighsAtMost 2 (after r (λ iterations. give (s, Iterations site line.line body iterations ∷ [])))
+  loop-by line body s (Ok (iterations, a)) = omega arith
   loop-by line body s (Err end) = tt
 
   weighs-tree : (tree : Tree) (s : EvalState) (a : Account) → WeighsAtMost 2 (do_tree files makefile site tree s a)
   weighs-tree (LineTree line) s a = line-by line s (blamed_at (place_at files makefile site) line (open_line (place_at files makefile site) site.loops line s) a)
   weighs-tree (ChoiceTree line first later) s a = choice-by first later s ((works_in files makefile site).holds site.loops line s a)
-  weighs-tree (LoopTree line body) s a = loop-by line body s ((works_in files makefile site).turns site.loops line s a)
+  weighs-tree (LoopTree line body) s a = loop-by line body s ((works_in files makefile site).iterations site.loops line s a)
 
   module _ (frames : List Frame) where
     block-by : (block : Block) (r : Result (StateAndFrames × Account) (FaultAt × Account)) → WeighsAtMost 2 r → WeighsAtMost (2 + weight frames) (after r (λ done. give (done.0, done.1 ++ Lines site block ∷ frames)))
@@ -182,10 +182,10 @@ module _ (files : FileMap) (makefile : List ℕ) (site : Site) where
     branch-by block more s (Ok (false, a)) = omega arith
     branch-by block more s (Err end) = tt
 
-    turn-by : (site' : Site) (line : ℕ) (body : Block) (turns : List LoopWords) (s : EvalState) (r : Result (Unit {0} × Account) (FaultAt × Account))
-        → WeighsAtMost (2 + weight frames) (after r (λ _. give (s, Lines site' body ∷ Turns site line body turns ∷ frames)))
-    turn-by site' line body turns s (Ok (done, a)) = omega arith
-    turn-by site' line body turns s (Err end) = tt
+    iteration-by : (site' : Site) (line : ℕ) (body : Block) (iterations : List LoopWords) (s : EvalState) (r : Result (Unit {0} × Account) (FaultAt × Account))
+        → WeighsAtMost (2 + weight frames) (after r (λ _. give (s, Lines site' body ∷ Iterations site line body iterations ∷ frames)))
+    iteration-by site' line body iterations s (Ok (done, a)) = omega arith
+    iteration-by site' line body iterations s (Err end) = tt
 
 -- Something was spent, and little is to be done about modules; or something was asked, and no more is; or less is.
 abbrev Heads : Account → List Frame → Result (StateAndFrames × Account) (FaultAt × Account) → Type 0
@@ -245,10 +245,10 @@ module _ (files : FileMap) (makefile : List ℕ) (frames : List Frame) (s : Eval
       spending (Later site (ElifBranch line block more)) tt (2 + weight frames) (omega arith)
       (branch-by files makefile site frames block more s ((works_in files makefile site).holds site.loops line s a))
   heads (Later site (ElseBranch block)) costs = absurd costs
-  heads (Turns site line body []) costs = absurd costs
-  heads (Turns site line body (turn ∷ turns)) costs =
-      spending (Turns site line body (turn ∷ turns)) tt (2 + weight frames) (omega arith)
-      (turn-by files makefile site frames (record site { loops = inside_turn site.loops turn }) line body turns s ((works_in files makefile site).begins (numbered_line line) a))
+  heads (Iterations site line body []) costs = absurd costs
+  heads (Iterations site line body (iteration ∷ iterations)) costs =
+      spending (Iterations site line body (iteration ∷ iterations)) tt (2 + weight frames) (omega arith)
+      (iteration-by files makefile site frames (record site { loops = inside_iteration site.loops iteration }) line body iterations s ((works_in files makefile site).begins (numbered_line line) a))
   heads (Modules site line) costs = words-by a site line frames s (blamed (place_at files makefile site) line (quietly (module_words s.variables)) a)
   heads (Searches site line []) costs = absurd costs
   heads (Searches site line (word ∷ words)) costs =

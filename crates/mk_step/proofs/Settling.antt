@@ -8,9 +8,9 @@ use Rattle.mk_ast.specs.Trees.{Block, Branches}
 use Rattle.mk_ast.specs.Blocks.{branches_from}
 use Rattle.mk_ast.specs.Views.{block_of, branch_of}
 use Rattle.mk_loop.specs.LoopWords.{LoopWords}
-use Rattle.mk_eval.specs.Execution.{execute, turn_of}
+use Rattle.mk_eval.specs.Execution.{execute, iteration_of}
 use Rattle.mk_eval.specs.Meaning.{include_module}
-use Rattle.mk_step.specs.Machine.{Site, Frame, Lines, Later, Turns, Searches, place_at, works_in, entering_in, numbered_line, rest}
+use Rattle.mk_step.specs.Machine.{Site, Frame, Lines, Later, Iterations, Searches, place_at, works_in, entering_in, numbered_line, rest}
 use Rattle.mk_step.specs.Costs.{Costs}
 use Rattle.mk_step.specs.Points.{DoTheSame}
 use Rattle.mk_step.proofs.Advancing.{each-nil}
@@ -36,17 +36,17 @@ costs-branches site (branch ∷ left) last some = tt
 pub costs-later : (site : Site) (items : List Branch) (last : Branches) (next : ℕ) → next < length items → Costs (Later site (branches_from (map branch_of (drop next items)) last))
 costs-later site items last next within = costs-branches site (drop next items) last (omega (arith, length-drop next items, within))
 
-costs-left : (site : Site) (line : ℕ) (body : Block) (left : List LoopWords) → 0 < length left → Costs (Turns site line body left)
+costs-left : (site : Site) (line : ℕ) (body : Block) (left : List LoopWords) → 0 < length left → Costs (Iterations site line body left)
 costs-left site line body [] some = absurd (omega (arith, some))
-costs-left site line body (turn ∷ left) some = tt
+costs-left site line body (iteration ∷ left) some = tt
 
-pub costs-turns : (site : Site) (line : ℕ) (body : Block) (turns : List LoopWords) (next : ℕ) → next < length turns → Costs (Turns site line body (drop next turns))
-costs-turns site line body turns next within = costs-left site line body (drop next turns) (omega (arith, length-drop next turns, within))
+pub costs-iterations : (site : Site) (line : ℕ) (body : Block) (iterations : List LoopWords) (next : ℕ) → next < length iterations → Costs (Iterations site line body (drop next iterations))
+costs-iterations site line body iterations next within = costs-left site line body (drop next iterations) (omega (arith, length-drop next iterations, within))
 
-pub over-turns : (site : Site) (line : ℕ) (body : Block) (turns : List LoopWords) (next : ℕ) (others : List Frame) → length turns ≤ next → DoTheSame (Turns site line body (drop next turns) ∷ others) others
-over-turns site line body turns next others past files makefile s a =
-    ap (λ left. rest files makefile (Turns site line body left ∷ others) s a) (drop_all next turns past)
-    ∙ ap (λ r. after r (rest files makefile others)) (each-nil (turn_of ((works_in files makefile site).begins (numbered_line line)) (execute (works_in files makefile site) body) site.loops) s a)
+pub over-iterations : (site : Site) (line : ℕ) (body : Block) (iterations : List LoopWords) (next : ℕ) (others : List Frame) → length iterations ≤ next → DoTheSame (Iterations site line body (drop next iterations) ∷ others) others
+over-iterations site line body iterations next others past files makefile s a =
+    ap (λ left. rest files makefile (Iterations site line body left ∷ others) s a) (drop_all next iterations past)
+    ∙ ap (λ r. after r (rest files makefile others)) (each-nil (iteration_of ((works_in files makefile site).begins (numbered_line line)) (execute (works_in files makefile site) body) site.loops) s a)
 
 -- words that are left to be searched, and none
 costs-words : (site : Site) (line : ℕ) (left : List (String Global)) → 0 < length left → Costs (Searches site line (map string_bytes left))

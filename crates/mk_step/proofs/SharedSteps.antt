@@ -8,14 +8,14 @@ use Rattle.mk_base.specs.Outcome.{Work}
 use Rattle.mk_paths.specs.World.{FileMap}
 use Rattle.mk_files.specs.Questions.{Account}
 use Rattle.mk_eval.specs.declared.state.EvalState.{EvalState}
-use Rattle.mk_eval.specs.Lines.{inside_turn}
+use Rattle.mk_eval.specs.Lines.{inside_iteration}
 use Rattle.mk_eval.specs.Includes.{File, Opened}
 use Rattle.mk_eval.specs.Meaning.{at}
 use Rattle.mk_eval.specs.Steps.{entering_at}
 use Rattle.mk_eval.proofs.Shared.{Shared, shared-quietly, shared-give, shared-fail, shared-tell, bind, over}
 use Rattle.mk_eval.proofs.SharedEvaluation.{EntersShared, AreShared, shared-block, shared-branches, shared-open_line, works-shared, nothing-shared, file-shared}
 use Rattle.mk_eval.proofs.SharedEvaluation.{steady-module_words, shared-open_module, shared-include_module, shared-include_modules}
-use Rattle.mk_step.specs.Machine.{Site, Frame, Lines, Later, Turns, Modules, Searches, place_at, works_in, entering_in, numbered_line, found_or, next_module, to_do, rest, read_lines, file_lines, opened_lines, do_tree, advance}
+use Rattle.mk_step.specs.Machine.{Site, Frame, Lines, Later, Iterations, Modules, Searches, place_at, works_in, entering_in, numbered_line, found_or, next_module, to_do, rest, read_lines, file_lines, opened_lines, do_tree, advance}
 
 module _ (files : FileMap) (makefile : List ℕ) where
   enters : (levels : ℕ) → EntersShared files (entering_at files makefile levels) (entering_at files makefile levels)
@@ -28,8 +28,8 @@ module _ (files : FileMap) (makefile : List ℕ) where
   shared-to_do : (frame : Frame) (s : EvalState) → Shared files (to_do files makefile frame s) (to_do files makefile frame s)
   shared-to_do (Lines site block) s = shared-block files (works_in files makefile site) (works_in files makefile site) (are site) block site.loops s
   shared-to_do (Later site branches) s = shared-branches files (works_in files makefile site) (works_in files makefile site) (are site) branches site.loops s
-  shared-to_do (Turns site line body turns) s =
-      over (λ s turn. bind ((are site).begins (numbered_line line)) (λ _. shared-block files (works_in files makefile site) (works_in files makefile site) (are site) body (inside_turn site.loops turn) s)) s turns
+  shared-to_do (Iterations site line body iterations) s =
+      over (λ s iteration. bind ((are site).begins (numbered_line line)) (λ _. shared-block files (works_in files makefile site) (works_in files makefile site) (are site) body (inside_iteration site.loops iteration) s)) s iterations
   shared-to_do (Modules site line) s =
       shared-include_modules files (entering_in files makefile site) (entering_in files makefile site) (enters site.levels) (place_at files makefile site) line s
   shared-to_do (Searches site line words) s =
@@ -56,7 +56,7 @@ module _ (files : FileMap) (makefile : List ℕ) where
       bind (shared-tell (at site.file line.line) (shared-open_line files (entering_in files makefile site) (entering_in files makefile site) (enters site.levels) (place_at files makefile site) site.loops line s))
       (λ opened. bind (shared-opened_lines site.levels opened) (λ done. shared-give files _))
   shared-do_tree site (ChoiceTree line first later) s = bind ((are site).holds site.loops line s) (λ held. shared-give files _)
-  shared-do_tree site (LoopTree line body) s = bind ((are site).turns site.loops line s) (λ turns. shared-give files _)
+  shared-do_tree site (LoopTree line body) s = bind ((are site).iterations site.loops line s) (λ iterations. shared-give files _)
 
   shared-found_or : (words : List (List ℕ)) (others : EvalState → Work Account FaultAt (Opened × List (List ℕ))) → ((s : EvalState) → Shared files (others s) (others s)) → (opened : Opened) → Shared files (found_or words others opened) (found_or words others opened)
   shared-found_or words others shared (s, Some file) = shared-give files _
@@ -75,8 +75,8 @@ module _ (files : FileMap) (makefile : List ℕ) where
   shared-advance (Later site NoBranches) frames s = shared-give files _
   shared-advance (Later site (ElifBranch line block more)) frames s = bind ((are site).holds site.loops line s) (λ held. shared-give files _)
   shared-advance (Later site (ElseBranch block)) frames s = shared-give files _
-  shared-advance (Turns site line body []) frames s = shared-give files _
-  shared-advance (Turns site line body (turn ∷ turns)) frames s = bind ((are site).begins (numbered_line line)) (λ _. shared-give files _)
+  shared-advance (Iterations site line body []) frames s = shared-give files _
+  shared-advance (Iterations site line body (iteration ∷ iterations)) frames s = bind ((are site).begins (numbered_line line)) (λ _. shared-give files _)
   shared-advance (Modules site line) frames s = bind (shared-tell (at site.file line) (shared-quietly files (steady-module_words s.variables))) (λ words. shared-give files _)
   shared-advance (Searches site line words) frames s =
       bind (shared-next_module site line words s) (λ found. bind (shared-opened_lines site.levels found.0) (λ done. shared-give files _))

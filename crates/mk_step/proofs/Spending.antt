@@ -11,7 +11,7 @@ use Rattle.mk_paths.specs.World.{FileMap}
 use Rattle.mk_files.specs.Questions.{Account, beside, quietly}
 use Rattle.mk_eval.specs.declared.state.EvalState.{EvalState}
 use Rattle.mk_eval.specs.Lines.{Loops, perform_kind}
-use Rattle.mk_eval.specs.Heads.{head_text, condition_holds, turns, form_in}
+use Rattle.mk_eval.specs.Heads.{head_text, condition_holds, iterations, form_in}
 use Rattle.mk_eval.specs.Includes.{Place}
 use Rattle.mk_eval.specs.Meaning.{at, open_line}
 use Rattle.mk_eval.proofs.Steady.{Steady}
@@ -19,7 +19,7 @@ use Rattle.mk_eval.proofs.SteadyLoops.{steady-execute_in, steady-put_in, steady-
 use Rattle.mk_eval.proofs.Shared.{Shared, shared-give, bind}
 use Rattle.mk_eval.proofs.SharedConditions.{shared-parts}
 use Rattle.mk_eval.proofs.SharedEvaluation.{shared-open_request}
-use Rattle.mk_step.specs.Machine.{Site, Frame, Lines, Later, Turns, Modules, Searches, place_at, do_tree, advance}
+use Rattle.mk_step.specs.Machine.{Site, Frame, Lines, Later, Iterations, Modules, Searches, place_at, do_tree, advance}
 use Rattle.mk_step.specs.Costs.{TreeCosts}
 use Rattle.mk_step.proofs.Coming.{spends}
 use Rattle.mk_step.proofs.SharedSteps.{shared-opened_lines}
@@ -110,8 +110,8 @@ grows-judge files makefile variables loops line =
     grows-bind files (quietly (head_text variables loops (line_kind line))) _ (grows-quietly _ (grows-head_text variables loops (line_kind line)))
     (λ text. shared-parts files files variables makefile (option_map (λ form. (form, text)) (form_in (line_kind line))))
 
-grows-turns : (variables : Variables) (loops : Loops) (line : List ℕ) → GrowsPurely (turns variables loops line)
-grows-turns variables loops line = grows-purely (head_text variables loops (line_kind line)) _ (grows-head_text variables loops (line_kind line)) (steady-header variables)
+grows-iterations : (variables : Variables) (loops : Loops) (line : List ℕ) → GrowsPurely (iterations variables loops line)
+grows-iterations variables loops line = grows-purely (head_text variables loops (line_kind line)) _ (grows-head_text variables loops (line_kind line)) (steady-header variables)
 
 module _ (files : FileMap) (makefile : List ℕ) (site : Site) where
   abbrev place : Place
@@ -129,7 +129,7 @@ module _ (files : FileMap) (makefile : List ℕ) (site : Site) where
       (λ opened. bind (shared-opened_lines files makefile site.levels opened) (λ done. shared-give files _))
   grows-tree (ChoiceTree line first later) s costs = grows-bind files _ _ (grows-holds line.line line.text s) (λ held. shared-give files _)
   grows-tree (LoopTree line body) s costs =
-      grows-bind files _ _ (grows-tell (at site.file line.line) _ (grows-quietly _ (grows-turns s.variables site.loops line.text))) (λ turns. shared-give files _)
+      grows-bind files _ _ (grows-tell (at site.file line.line) _ (grows-quietly _ (grows-iterations s.variables site.loops line.text))) (λ iterations. shared-give files _)
 
 -- the next thing that a frame does, if it costs at least a unit
 abbrev pub Spends : Frame → Type 0
@@ -138,8 +138,8 @@ Spends (Lines site (MoreBlock tree block)) = TreeCosts tree
 Spends (Later site NoBranches) = ⊥
 Spends (Later site (ElifBranch line block more)) = Unit {0}
 Spends (Later site (ElseBranch block)) = ⊥
-Spends (Turns site line body []) = ⊥
-Spends (Turns site line body (turn ∷ turns)) = Unit {0}
+Spends (Iterations site line body []) = ⊥
+Spends (Iterations site line body (iteration ∷ iterations)) = Unit {0}
 Spends (Modules site line) = ⊥
 Spends (Searches site line words) = ⊥
 
@@ -149,8 +149,8 @@ grows-advance files makefile (Lines site (MoreBlock tree block)) frames s costs 
 grows-advance files makefile (Later site NoBranches) frames s costs = absurd costs
 grows-advance files makefile (Later site (ElifBranch line block more)) frames s costs = grows-bind files _ _ (grows-holds files makefile site line.line line.text s) (λ held. shared-give files _)
 grows-advance files makefile (Later site (ElseBranch block)) frames s costs = absurd costs
-grows-advance files makefile (Turns site line body []) frames s costs = absurd costs
-grows-advance files makefile (Turns site line body (turn ∷ turns)) frames s costs =
+grows-advance files makefile (Iterations site line body []) frames s costs = absurd costs
+grows-advance files makefile (Iterations site line body (iteration ∷ iterations)) frames s costs =
     grows-bind files _ _ (grows-tell (at site.file line) _ (grows-quietly _ grows-pay)) (λ _. shared-give files _)
 grows-advance files makefile (Modules site line) frames s costs = absurd costs
 grows-advance files makefile (Searches site line words) frames s costs = absurd costs

@@ -21,12 +21,12 @@ use Rattle.mk_ast.specs.Views.{tree_of, block_of, branch_of, node_step, branch_s
 use Rattle.mk_paths.specs.World.{FileMap}
 use Rattle.mk_files.specs.Questions.{Account, beside}
 use Rattle.mk_paths.specs.FilesView.{Question}
-use Rattle.mk_loop.specs.declared.turn.Iteration.{Iteration}
+use Rattle.mk_loop.specs.declared.iterations.Iteration.{Iteration}
 use Rattle.mk_loop.specs.LoopWords.{LoopWords}
 use Rattle.mk_eval.specs.declared.includes.ExecutedFile.{ExecutedFile}
 use Rattle.mk_eval.specs.declared.state.EvalState.{EvalState}
-use Rattle.mk_eval.specs.Lines.{inside_turn}
-use Rattle.mk_eval.specs.Heads.{condition_holds, turns}
+use Rattle.mk_eval.specs.Lines.{inside_iteration}
+use Rattle.mk_eval.specs.Heads.{condition_holds, iterations}
 use Rattle.mk_eval.specs.Includes.{Place, File, Opened}
 use Rattle.mk_eval.specs.Meaning.{at, blamed_at, open_line}
 use Rattle.mk_eval.specs.Modules.{asks_modules, module_words}
@@ -34,7 +34,7 @@ use Rattle.mk_eval.specs.Steps.{works_of, PaysToOpen, MayOpen}
 use Rattle.mk_eval.specs.declared.includes.Included.{Included}
 use Rattle.mk_eval.specs.Views.{loops_of, place_of_file, included_file}
 use Rattle.mk_eval.proofs.Stepping.{tree-branch}
-use Rattle.mk_step.specs.Machine.{Site, Frame, Lines, Later, Turns, Modules, Searches, StateAndFrames, place_at, works_in, numbered_line, read_lines, file_lines, opened_lines, next_module, do_line, do_tree, before, modules_at, advance}
+use Rattle.mk_step.specs.Machine.{Site, Frame, Lines, Later, Iterations, Modules, Searches, StateAndFrames, place_at, works_in, numbered_line, read_lines, file_lines, opened_lines, next_module, do_line, do_tree, before, modules_at, advance}
 use Rattle.mk_step.specs.Views.{later_from}
 
 -- what the code calls at a site is what the machine does there
@@ -61,12 +61,12 @@ module _ (files : FileMap) (makefile : List ℕ) (site : Site) (frames : List Fr
       ∙ ap (λ branch. advance files makefile (Later site (branches_from (branch ∷ map branch_of (drop (next + 1) items)) (last_branch (option_map block_of otherwise)))) frames s a) (tree-branch item)
 
   -- the iterations from a place on
-  pub turns-first : (line : ℕ) (body : Block) (turns : List LoopWords) (next : ℕ) → next < length turns
-      → advance files makefile (Turns site line body (drop next turns)) frames s a
+  pub iterations-first : (line : ℕ) (body : Block) (iterations : List LoopWords) (next : ℕ) → next < length iterations
+      → advance files makefile (Iterations site line body (drop next iterations)) frames s a
       ≡ after ((works_in files makefile site).begins (numbered_line line) a)
-      (λ _. give (s, Lines (record site { loops = inside_turn site.loops (get_or turns next []) }) body ∷ Turns site line body (drop (next + 1) turns) ∷ frames))
-  turns-first line body turns next within =
-      ap (λ left. advance files makefile (Turns site line body left) frames s a) (drop_more turns next [] within)
+      (λ _. give (s, Lines (record site { loops = inside_iteration site.loops (get_or iterations next []) }) body ∷ Iterations site line body (drop (next + 1) iterations) ∷ frames))
+  iterations-first line body iterations next within =
+      ap (λ left. advance files makefile (Iterations site line body left) frames s a) (drop_more iterations next [] within)
 
 -- a condition judged, among the branches from a place on
 module _ (here : ExecutedFile) (files : FileMap) (makefile : List ℕ) (site : Site) (loops : List Iteration) (placed : place_of_file here files ≡ place_at files makefile site) (looped : loops_of loops ≡ site.loops)
@@ -98,24 +98,24 @@ told-stops f log (Err end) fault m is = ap (beside log) is
 
 -- an iteration begun, among those from a place on
 module _ (here : ExecutedFile) (files : FileMap) (makefile : List ℕ) (site : Site) (placed : place_of_file here files ≡ place_at files makefile site)
-    (frames : List Frame) (s : EvalState) (m : Meter) (log : Option (List Question)) (line : ℕ) (body : Block) (turns : List LoopWords) (next : ℕ) (within : next < length turns) where
+    (frames : List Frame) (s : EvalState) (m : Meter) (log : Option (List Question)) (line : ℕ) (body : Block) (iterations : List LoopWords) (next : ℕ) (within : next < length iterations) where
   abbrev left_begun : Unit {0} → Work Account FaultAt StateAndFrames
-  left_begun done = give (s, Lines (record site { loops = inside_turn site.loops (get_or turns next []) }) body ∷ Turns site line body (drop (next + 1) turns) ∷ frames)
+  left_begun done = give (s, Lines (record site { loops = inside_iteration site.loops (get_or iterations next []) }) body ∷ Iterations site line body (drop (next + 1) iterations) ∷ frames)
 
-  begun : advance files makefile (Turns site line body (drop next turns)) frames s (record { meter = m; log = log }) ≡ after (tell (at here.file.now line) (beside log (pay m))) left_begun
+  begun : advance files makefile (Iterations site line body (drop next iterations)) frames s (record { meter = m; log = log }) ≡ after (tell (at here.file.now line) (beside log (pay m))) left_begun
   begun =
-      turns-first files makefile site frames s (record { meter = m; log = log }) line body turns next within
+      iterations-first files makefile site frames s (record { meter = m; log = log }) line body iterations next within
       ∙ ap (λ (place : Place). after (tell (at place.file line) (beside log (pay m))) left_begun) (sym placed)
 
-  pub turns-stop : (stop : PureStop FaultAt) (end : Meter) → StopsPurelyAt stop end (tell (at here.file.now line) (pay m))
-      → StopsPurelyAt stop (record { meter = end; log = log }) (advance files makefile (Turns site line body (drop next turns)) frames s (record { meter = m; log = log }))
-  turns-stop (pure.Fault fault) end stops = begun ∙ ap (λ r. after r left_begun) (told-stops (at here.file.now line) log (pay m) fault end stops)
-  turns-stop (pure.Memory _) end stops = tt
+  pub iterations-stop : (stop : PureStop FaultAt) (end : Meter) → StopsPurelyAt stop end (tell (at here.file.now line) (pay m))
+      → StopsPurelyAt stop (record { meter = end; log = log }) (advance files makefile (Iterations site line body (drop next iterations)) frames s (record { meter = m; log = log }))
+  iterations-stop (pure.Fault fault) end stops = begun ∙ ap (λ r. after r left_begun) (told-stops (at here.file.now line) log (pay m) fault end stops)
+  iterations-stop (pure.Memory _) end stops = tt
 
-  pub turns-go : (end : Meter) (frames' : List Frame) → tell (at here.file.now line) (pay m) ≡ Ok (tt, end)
-      → Lines (record site { loops = inside_turn site.loops (get_or turns next []) }) body ∷ Turns site line body (drop (next + 1) turns) ∷ frames ≡ frames'
-      → advance files makefile (Turns site line body (drop next turns)) frames s (record { meter = m; log = log }) ≡ Ok ((s, frames'), record { meter = end; log = log })
-  turns-go end frames' gives left =
+  pub iterations-go : (end : Meter) (frames' : List Frame) → tell (at here.file.now line) (pay m) ≡ Ok (tt, end)
+      → Lines (record site { loops = inside_iteration site.loops (get_or iterations next []) }) body ∷ Iterations site line body (drop (next + 1) iterations) ∷ frames ≡ frames'
+      → advance files makefile (Iterations site line body (drop next iterations)) frames s (record { meter = m; log = log }) ≡ Ok ((s, frames'), record { meter = end; log = log })
+  iterations-go end frames' gives left =
       begun ∙ ap (λ r. after r left_begun) (told-found (at here.file.now line) log (pay m) tt end gives)
       ∙ ap (λ frames. let outcome : Result (StateAndFrames × Account) (FaultAt × Account) = Ok ((s, frames), record { meter = end; log = log }) in outcome) left
 
@@ -224,19 +224,19 @@ module _ (here : ExecutedFile) (files : FileMap) (makefile : List ℕ) (site : S
 module _ (here : ExecutedFile) (files : FileMap) (makefile : List ℕ) (site : Site) (loops : List Iteration) (placed : place_of_file here files ≡ place_at files makefile site) (looped : loops_of loops ≡ site.loops)
     (node : Node) (head : LogicalLine) (body : Rc (Vec Node Global) Global) (is : node ≡ Loop head body) (s : EvalState) (m : Meter) (log : Option (List Question)) where
   abbrev reading : Result (List LoopWords × Meter) (FaultAt × Meter)
-  reading = tell (at here.file.now head.line) (turns s.variables (loops_of loops) head.text m)
+  reading = tell (at here.file.now head.line) (iterations s.variables (loops_of loops) head.text m)
 
   abbrev left_read : List LoopWords → Work Account FaultAt StateAndFrames
-  left_read turns = give (s, Turns site head.line (block_of body.value.items) turns ∷ [])
+  left_read iterations = give (s, Iterations site head.line (block_of body.value.items) iterations ∷ [])
 
-  reads : do_tree files makefile site (tree_of node) s (record { meter = m; log = log }) ≡ after (tell (at here.file.now head.line) (beside log (turns s.variables (loops_of loops) head.text m))) left_read
+  reads : do_tree files makefile site (tree_of node) s (record { meter = m; log = log }) ≡ after (tell (at here.file.now head.line) (beside log (iterations s.variables (loops_of loops) head.text m))) left_read
   reads =
       ap (λ tree. do_tree files makefile site tree s (record { meter = m; log = log })) (ap tree_of is ∙ loop-tree head body)
-      ∙ ap (λ (place : Place). after (tell (at place.file head.line) (beside log (turns s.variables site.loops head.text m))) left_read) (sym placed)
-      ∙ ap (λ loops. after (tell (at here.file.now head.line) (beside log (turns s.variables loops head.text m))) left_read) (sym looped)
+      ∙ ap (λ (place : Place). after (tell (at place.file head.line) (beside log (iterations s.variables site.loops head.text m))) left_read) (sym placed)
+      ∙ ap (λ loops. after (tell (at here.file.now head.line) (beside log (iterations s.variables loops head.text m))) left_read) (sym looped)
 
   pub loop-stops : (stop : PureStop FaultAt) (end : Meter) → StopsPurelyAt stop end reading → StopsAt (stop_of_pure stop) (record { meter = end; log = log }) (do_tree files makefile site (tree_of node) s (record { meter = m; log = log }))
-  loop-stops (pure.Fault fault) end stops = reads ∙ ap (λ r. after r left_read) (told-stops (at here.file.now head.line) log (turns s.variables (loops_of loops) head.text m) fault end stops)
+  loop-stops (pure.Fault fault) end stops = reads ∙ ap (λ r. after r left_read) (told-stops (at here.file.now head.line) log (iterations s.variables (loops_of loops) head.text m) fault end stops)
   loop-stops (pure.Memory _) end stops = tt
 
 pub may-search : (levels levels' : ℕ) (found : Option Included) (included : Included) → levels ≡ levels' → found ≡ Some included → MayOpen levels found → levels' ≡ 0 → ⊥

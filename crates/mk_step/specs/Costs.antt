@@ -4,7 +4,7 @@ use Rattle.mk_base.specs.declared.budget.TheConstants.{QUESTIONS}
 use Rattle.mk_base.specs.Meter.{Meter}
 use Rattle.mk_ast.specs.Kinds.{BlankLine, line_kind}
 use Rattle.mk_ast.specs.Trees.{Tree, LineTree, ChoiceTree, LoopTree, EmptyBlock, MoreBlock, NoBranches, ElifBranch, ElseBranch}
-use Rattle.mk_step.specs.Machine.{Frame, Lines, Later, Turns, Modules, Searches}
+use Rattle.mk_step.specs.Machine.{Frame, Lines, Later, Iterations, Modules, Searches}
 
 -- a blank line
 abbrev pub IsBlank : Tree → Type 0
@@ -25,8 +25,8 @@ Costs (Lines site (MoreBlock tree block)) = TreeCosts tree
 Costs (Later site NoBranches) = ⊥
 Costs (Later site (ElifBranch line block more)) = Unit {0}
 Costs (Later site (ElseBranch block)) = ⊥
-Costs (Turns site line body []) = ⊥
-Costs (Turns site line body (turn ∷ turns)) = Unit {0}
+Costs (Iterations site line body []) = ⊥
+Costs (Iterations site line body (iteration ∷ iterations)) = Unit {0}
 Costs (Modules site line) = Unit {0}
 Costs (Searches site line []) = ⊥
 Costs (Searches site line (word ∷ words)) = Unit {0}
@@ -35,7 +35,7 @@ Costs (Searches site line (word ∷ words)) = Unit {0}
 abbrev pub frame_weight : Frame → ℕ
 frame_weight (Lines site block) = 0
 frame_weight (Later site later) = 0
-frame_weight (Turns site line body turns) = 0
+frame_weight (Iterations site line body iterations) = 0
 frame_weight (Modules site line) = 2
 frame_weight (Searches site line []) = 0
 frame_weight (Searches site line (word ∷ words)) = 1

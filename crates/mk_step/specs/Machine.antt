@@ -11,9 +11,9 @@ use Rattle.mk_ast.specs.Parser.{parsed}
 use Rattle.mk_paths.specs.World.{FileMap}
 use Rattle.mk_files.specs.Questions.{Account, quietly}
 use Rattle.mk_loop.specs.LoopWords.{LoopWords}
-use Rattle.mk_eval.specs.Lines.{Loops, inside_turn}
+use Rattle.mk_eval.specs.Lines.{Loops, inside_iteration}
 use Rattle.mk_eval.specs.Includes.{Place, File, Opened}
-use Rattle.mk_eval.specs.Execution.{LineWorks, execute, execute_branches, turn_of}
+use Rattle.mk_eval.specs.Execution.{LineWorks, execute, execute_branches, iteration_of}
 use Rattle.mk_eval.specs.Meaning.{Entering, works_at, blamed, blamed_at, open_line, include_module, include_modules}
 use Rattle.mk_eval.specs.Modules.{asks_modules, module_words, open_module}
 use Rattle.mk_eval.specs.Steps.{entering_at}
@@ -31,7 +31,7 @@ pub record Site : Type 0 where
 pub data Frame : Type 0 where
   Lines : Site → Block → Frame
   Later : Site → Branches → Frame
-  Turns : Site → ℕ → Block → List LoopWords → Frame
+  Iterations : Site → ℕ → Block → List LoopWords → Frame
   Modules : Site → ℕ → Frame
   Searches : Site → ℕ → List (List ℕ) → Frame
 
@@ -64,8 +64,9 @@ numbered_line number = record { text = []; line = number; command = false }
 abbrev pub to_do : FileMap → List ℕ → Frame → EvalState → Work Account FaultAt EvalState
 to_do files makefile (Lines site block) s = execute (works_in files makefile site) block site.loops s
 to_do files makefile (Later site branches) s = execute_branches (works_in files makefile site) branches site.loops s
-to_do files makefile (Turns site line body turns) s =
-    let works = works_in files makefile site in each (turn_of (works.begins (numbered_line line)) (execute works body) site.loops) s turns
+to_do files makefile (Iterations site line body iterations) s =
+    let works = works_in files makefile site in
+    each (iteration_of (works.begins (numbered_line line)) (execute works body) site.loops) s iterations
 to_do files makefile (Modules site line) s = include_modules (entering_in files makefile site) (place_at files makefile site) line s
 to_do files makefile (Searches site line words) s =
     each (include_module (entering_in files makefile site) (place_at files makefile site) line) s words
@@ -114,7 +115,7 @@ do_tree files makefile site (ChoiceTree line first later) s =
     (works_in files makefile site).holds site.loops line s
     >>= λ held. give (s, (if held then Lines site first else Later site later) ∷ [])
 do_tree files makefile site (LoopTree line body) s =
-    (works_in files makefile site).turns site.loops line s >>= λ turns. give (s, Turns site line.line body turns ∷ [])
+    (works_in files makefile site).iterations site.loops line s >>= λ iterations. give (s, Iterations site line.line body iterations ∷ [])
 
 -- the file that was found for a word, with the words after it; or else what others give
 abbrev pub found_or : List (List ℕ) → (EvalState → Work Account FaultAt (Opened × List (List ℕ))) → Opened
@@ -140,10 +141,11 @@ advance files makefile (Later site (ElifBranch line block more)) frames s =
     (works_in files makefile site).holds site.loops line s
     >>= λ held. give (s, (if held then Lines site block else Later site more) ∷ frames)
 advance files makefile (Later site (ElseBranch block)) frames s = give (s, Lines site block ∷ frames)
-advance files makefile (Turns site line body []) frames s = give (s, frames)
-advance files makefile (Turns site line body (turn ∷ turns)) frames s =
+advance files makefile (Iterations site line body []) frames s = give (s, frames)
+advance files makefile (Iterations site line body (iteration ∷ later)) frames s =
     (works_in files makefile site).begins (numbered_line line)
-    >>= λ _. give (s, Lines (record site { loops = inside_turn site.loops turn }) body ∷ Turns site line body turns ∷ frames)
+    >>= λ _. give (s, Lines (record site { loops = inside_iteration site.loops iteration }) body
+    ∷ Iterations site line body later ∷ frames)
 advance files makefile (Modules site line) frames s =
     blamed (place_at files makefile site) line (quietly (module_words s.variables))
     >>= λ words. give (s, Searches site line words ∷ frames)

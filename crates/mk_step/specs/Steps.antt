@@ -13,9 +13,9 @@ use Rattle.mk_ast.specs.declared.nodes.Branch.{Branch}
 use Rattle.mk_ast.specs.declared.nodes.Node.{Node}
 use Rattle.mk_ast.specs.Parser.{parsed}
 use Rattle.mk_ast.specs.Views.{block_of, tree_of}
-use Rattle.mk_loop.specs.declared.turn.Iterations.{Iterations}
+use Rattle.mk_loop.specs.declared.iterations.Iterations.{Iterations}
 use Rattle.mk_loop.specs.LoopWords.{LoopWords}
-use Rattle.mk_loop.specs.Scopes.{turns_in}
+use Rattle.mk_loop.specs.Scopes.{iterations_in}
 use Rattle.mk_paths.specs.World.{FileMap}
 use Rattle.mk_paths.specs.FilesView.{FilesView, Question, view_world}
 use Rattle.mk_paths.specs.declared.files.FilesFault.{FilesFault}
@@ -25,7 +25,7 @@ use Rattle.mk_eval.specs.declared.includes.ExecutedFile.{ExecutedFile}
 use Rattle.mk_eval.specs.declared.includes.Included.{Included}
 use Rattle.mk_eval.specs.declared.outcome.Evaluated.{Evaluated}
 use Rattle.mk_eval.specs.declared.state.EvalState.{EvalState}
-use Rattle.mk_eval.specs.Lines.{inside_turn}
+use Rattle.mk_eval.specs.Lines.{inside_iteration}
 use Rattle.mk_eval.specs.Views.{place_of_file, included_file, flavors_in}
 use Rattle.mk_step.specs.declared.frames.Frame.{Frame}
 use Rattle.mk_step.specs.declared.frames.ToDo.{ToDo}
@@ -155,8 +155,8 @@ Chooses held body branches next otherwise to_do =
 
 -- the iterations of a loop that begins at this line are to be done at any site
 abbrev pub Repeats : ℕ → Rc (Vec Node Global) Global → Rc Iterations Global → ToDo → Type 0
-Repeats line body turns to_do =
-    (site : machine.Site) → frame_at site to_do ≡ machine.Turns site line (block_of body.value.items) (turns_in turns.value)
+Repeats line body iterations to_do =
+    (site : machine.Site) → frame_at site to_do ≡ machine.Iterations site line (block_of body.value.items) (iterations_in iterations.value)
 
 -- ---- sites
 
@@ -166,10 +166,10 @@ IsOutside file levels result = IfOk result (λ site. site_of site.value ≡ reco
 
 -- if a function succeeds, it gives the site in one more loop, at its iteration with this index
 abbrev pub EntersLoop : {F : Type 0} → Site → Iterations → ℕ → Result (Rc Site Global) F → Type 0
-EntersLoop outer turns index result =
-    (turn : LoopWords) → slice_get (turns_in turns) index ≡ Some turn
+EntersLoop outer iterations index result =
+    (iteration : LoopWords) → slice_get (iterations_in iterations) index ≡ Some iteration
     → IfOk result
-    (λ site. site_of site.value ≡ record (site_of outer) { loops = inside_turn (site_of outer).loops turn })
+    (λ site. site_of site.value ≡ record (site_of outer) { loops = inside_iteration (site_of outer).loops iteration })
 
 -- among any files, a site is the place of an executed file, in the evaluation of this makefile
 abbrev pub IsHere : List ℕ → Site → ExecutedFile → Type 0

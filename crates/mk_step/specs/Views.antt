@@ -7,7 +7,7 @@ use Rattle.mk_ast.specs.declared.nodes.Branch.{Branch}
 use Rattle.mk_ast.specs.Trees.{Branches}
 use Rattle.mk_ast.specs.Blocks.{branches_from, last_branch}
 use Rattle.mk_ast.specs.Views.{block_of, branch_of}
-use Rattle.mk_loop.specs.Scopes.{turns_in}
+use Rattle.mk_loop.specs.Scopes.{iterations_in}
 use Rattle.mk_eval.specs.Views.{loops_of}
 use Rattle.mk_step.specs.Machine as machine
 use Rattle.mk_step.specs.Points.{Point}
@@ -16,7 +16,7 @@ use Rattle.mk_step.specs.Machine.{before}
 use Rattle.mk_step.specs.declared.frames.Frame.{Frame}
 use Rattle.mk_step.specs.declared.frames.Inner.{Inner}
 use Rattle.mk_step.specs.declared.frames.ToDo.{ToDo}
-use Rattle.mk_step.specs.declared.frames.ToDo.TheVariants.{Lines, Later, Turns, Modules, Searches}
+use Rattle.mk_step.specs.declared.frames.ToDo.TheVariants.{Lines, Later, Iterations, Modules, Searches}
 use Rattle.mk_step.specs.declared.searches.Search.{Search}
 use Rattle.mk_step.specs.declared.machine.Machine.{Machine}
 
@@ -40,8 +40,8 @@ nodes_in otherwise = option_map (λ block. block.value.items) otherwise
 abbrev pub frame_at : machine.Site → ToDo → machine.Frame
 frame_at site (Lines left) = machine.Lines site (block_of (drop left.next left.block.value.items))
 frame_at site (Later left) = machine.Later site (later_from left.branches.value.items left.next (nodes_in left.otherwise))
-frame_at site (Turns left) =
-    machine.Turns site left.line (block_of left.body.value.items) (drop left.next (turns_in left.turns.value))
+frame_at site (Iterations left) =
+    machine.Iterations site left.line (block_of left.body.value.items) (drop left.next (iterations_in left.iterations.value))
 frame_at site (Modules line) = machine.Modules site line
 frame_at site (Searches search) = machine.Searches site search.line (words_left search)
 

@@ -31,7 +31,7 @@ pub(crate) enum ToDo {
     /// Later branches of a choice.
     Later(BranchesLeft),
     /// Iterations of a loop.
-    Turns(TurnsLeft),
+    Iterations(IterationsLeft),
     /// The modules that a line asks for.
     Modules {
         /// The number of the line.
@@ -63,13 +63,13 @@ pub(crate) struct BranchesLeft {
 
 /// The iterations of a loop that are still to be done.
 #[derive(Drop)]
-pub(crate) struct TurnsLeft {
+pub(crate) struct IterationsLeft {
     /// The number of the loop's first line.
     pub(crate) line: u64,
     /// The lines of the loop.
     pub(crate) body: Block,
     /// All its iterations.
-    pub(crate) turns: Rc<Iterations>,
+    pub(crate) iterations: Rc<Iterations>,
     /// The index of the next one.
     pub(crate) next: usize,
 }
@@ -146,7 +146,7 @@ impl Frame {
         match to_do {
             ToDo::Lines(left) => lines_from(site, left),
             ToDo::Later(left) => later_from(site, left),
-            ToDo::Turns(left) => turns_from(site, left),
+            ToDo::Iterations(left) => iterations_from(site, left),
             ToDo::Modules { line } => Some(Frame {
                 site,
                 to_do: ToDo::Modules { line },
@@ -212,13 +212,13 @@ fn later_from(site: Rc<Site>, left: BranchesLeft) -> Option<Frame>
 }
 
 /// The iterations of a loop that are left. It is `None` if there are none.
-fn turns_from(site: Rc<Site>, left: TurnsLeft) -> Option<Frame>
-    ensures alike { SettlesAt site (ToDo.Turns left) result }
+fn iterations_from(site: Rc<Site>, left: IterationsLeft) -> Option<Frame>
+    ensures alike { SettlesAt site (ToDo.Iterations left) result }
     ensures lighter { WeighsNothing result }
     ensures costs { IfSome result (λ frame. Costs (frame_of frame)) }
 {
-    if left.next < left.turns.count() {
-        let to_do = ToDo::Turns(left);
+    if left.next < left.iterations.count() {
+        let to_do = ToDo::Iterations(left);
         return Some(Frame { site, to_do });
     }
     None

@@ -3,7 +3,7 @@ ghost use Rattle.std.specs.Prelude.{◌≡◌, ◌<◌, ◌+◌, length, IfOk};
 ghost use Rattle.mk_step.specs.Views.{nodes_in};
 ghost use Rattle.mk_step.specs.Steps.{Chooses, Repeats};
 
-use crate::frames::{BranchesLeft, LinesLeft, ToDo, TurnsLeft};
+use crate::frames::{BranchesLeft, IterationsLeft, LinesLeft, ToDo};
 use mk_ast::{Block, Branches};
 use mk_loop::Iterations;
 use mk_text::Logical;
@@ -43,13 +43,17 @@ fn shared(otherwise: &Option<Block>) -> Result<Option<Block>, AllocError>
 }
 
 /// What is to be done of a loop once its header is read.
-pub(crate) fn begun(head: &Logical, body: &Block, turns: Rc<Iterations>) -> Result<ToDo, AllocError>
-    ensures { IfOk result (Repeats head.now.line body.now turns) }
+pub(crate) fn begun(
+    head: &Logical,
+    body: &Block,
+    iterations: Rc<Iterations>,
+) -> Result<ToDo, AllocError>
+    ensures { IfOk result (Repeats head.now.line body.now iterations) }
 {
-    Ok(ToDo::Turns(TurnsLeft {
+    Ok(ToDo::Iterations(IterationsLeft {
         line: head.line(),
         body: body.clone()?,
-        turns,
+        iterations,
         next: 0,
     }))
 }

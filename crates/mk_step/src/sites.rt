@@ -1,6 +1,6 @@
 //! Where lines are.
 ghost use Rattle.std.specs.Prelude.{◌≡◌, ◌<◌, length};
-ghost use Rattle.mk_loop.specs.Scopes.{turns_in};
+ghost use Rattle.mk_loop.specs.Scopes.{iterations_in};
 ghost use Rattle.mk_eval.specs.Views.{loops_of};
 ghost use Rattle.mk_step.specs.Views.{site_of};
 ghost use Rattle.mk_step.specs.Steps.{IsOutside, EntersLoop, IsHere};
@@ -39,16 +39,16 @@ impl Site {
     pub(crate) fn inside(
         &self,
         alloc: Global,
-        turns: &Rc<Iterations>,
+        iterations: &Rc<Iterations>,
         index: usize,
     ) -> Result<Rc<Site>, AllocError>
-        requires { index < length (turns_in turns.now.value) }
-        ensures { EntersLoop self.now turns.now.value index result }
+        requires { index < length (iterations_in iterations.now.value) }
+        ensures { EntersLoop self.now iterations.now.value index result }
     {
         let site = Site {
             file: self.file.clone()?,
             levels: self.levels,
-            loops: loops_at(alloc, self.loops.as_slice(), turns, index)?,
+            loops: loops_at(alloc, self.loops.as_slice(), iterations, index)?,
         };
         Ok(Rc::new(alloc, site)?)
     }

@@ -2,12 +2,12 @@
 ghost use Rattle.std.specs.Prelude.{◌≡◌, ◌<◌, length};
 ghost use Rattle.mk_base.specs.Meter.{IsLater};
 ghost use Rattle.mk_files.specs.Work.{Asks};
-ghost use Rattle.mk_loop.specs.Scopes.{turns_in};
+ghost use Rattle.mk_loop.specs.Scopes.{iterations_in};
 ghost use Rattle.mk_step.specs.Costs.{Costs};
 ghost use Rattle.mk_step.specs.Views.{frame_of};
 ghost use Rattle.mk_step.specs.Steps.{Advances, StepsAt, StepsAlone, DoesNode, DoesLine, ReadsLines};
 
-use crate::frames::{BranchesLeft, Frame, Inner, LinesLeft, ToDo, TurnsLeft};
+use crate::frames::{BranchesLeft, Frame, Inner, IterationsLeft, LinesLeft, ToDo};
 use crate::heads::{after_condition, begun, chosen};
 use crate::machine::Machine;
 use crate::searches::Search;
@@ -15,8 +15,8 @@ use crate::sites::Site;
 use mk_ast::{Block, Node};
 use mk_base::{Fault, PureStop, Stop};
 use mk_eval::{
-    ExecutedLine, Included, Parses, begin_turn, holds, may_ask_modules, module_words, open_line,
-    turns_at,
+    ExecutedLine, Included, Parses, begin_iteration, holds, iterations_at, may_ask_modules,
+    module_words, open_line,
 };
 use mk_files::Files;
 use mk_text::Logical;
@@ -43,7 +43,7 @@ impl Machine {
         match to_do {
             ToDo::Lines(left) => self.step_lines(alloc, site, left, parses, files),
             ToDo::Later(left) => self.step_later(alloc, site, left, files),
-            ToDo::Turns(left) => Ok(self.step_turns(alloc, site, left)?),
+            ToDo::Iterations(left) => Ok(self.step_iterations(alloc, site, left)?),
             ToDo::Modules { line } => Ok(self.step_modules(alloc, site, line)?),
             ToDo::Searches(search) => self.step_searches(alloc, site, search, parses, files),
         }
@@ -107,8 +107,8 @@ impl Machine {
                 Ok(Inner::of_block(site.clone()?, to_do))
             }
             Node::Loop { head, body } => {
-                let turns = turns_at(alloc, here, head, &self.state, &mut self.budget)?;
-                let to_do = begun(head, body, turns)?;
+                let iterations = iterations_at(alloc, here, head, &self.state, &mut self.budget)?;
+                let to_do = begun(head, body, iterations)?;
                 Ok(Inner::of_block(site.clone()?, to_do))
             }
         }
@@ -170,14 +170,14 @@ impl Machine {
     }
 
     /// Begins the next iteration, and leaves those after it.
-    fn step_turns(
+    fn step_iterations(
         &mut self,
         alloc: Global,
         site: Rc<Site>,
-        left: TurnsLeft,
+        left: IterationsLeft,
     ) -> Result<(), PureStop<Fault>>
-        requires { left.next < length (turns_in left.turns.value) }
-        ensures gives { StepsAlone site (ToDo.Turns left) self.old self.new result }
+        requires { left.next < length (iterations_in left.iterations.value) }
+        ensures gives { StepsAlone site (ToDo.Iterations left) self.old self.new result }
         ensures later { IsLater self.old.budget self.new.budget }
         ensures makefile { self.new.makefile ≡ self.old.makefile }
     {
@@ -186,18 +186,18 @@ impl Machine {
             here,
             number: left.line,
         };
-        begin_turn(alloc, line, &mut self.budget)?;
-        let is_one = left.next < left.turns.count();
+        begin_iteration(alloc, line, &mut self.budget)?;
+        let is_one = left.next < left.iterations.count();
         prove!(is_one);
         let inner = Frame {
-            site: site.inside(alloc, &left.turns, left.next)?,
+            site: site.inside(alloc, &left.iterations, left.next)?,
             to_do: ToDo::Lines(LinesLeft {
                 block: left.body.clone()?,
                 next: 0,
             }),
         };
         let next = left.next + 1;
-        let to_do = ToDo::Turns(TurnsLeft { next, ..left });
+        let to_do = ToDo::Iterations(IterationsLeft { next, ..left });
         self.frames.push(Frame { site, to_do })?;
         self.frames.push(inner)?;
         Ok(())

@@ -30,14 +30,14 @@ returns-in_ok-clone-in-Choice-clause-gives g c =
     (ap (λ frame. frame ∷ []) (sym (c.in_ok-to_do-in-Choice.ensures (site_of c.args.site.now.value)) ∙ ap (λ site. frame_at (site_of site) c.in_ok-to_do-in-Choice.to_do) (sym c.in_ok-clone-in-Choice.ensures.cases))
     ∙ sym c.of_block.ensures)
 
-pub returns-in_err-turns-in-Loop-clause-gives : goal.returns-in_err-turns-in-Loop-clause-gives
-returns-in_err-turns-in-Loop-clause-gives g c =
+pub returns-in_err-iterations-in-Loop-clause-gives : goal.returns-in_err-iterations-in-Loop-clause-gives
+returns-in_err-iterations-in-Loop-clause-gives g c =
     let view = g.F.Names.view in
     let files = (view c.args.files.now).files in
-    let p = err_from_is_err_and c.from_residual-in_err-turns-in-Loop.result c.from_residual-in_err-turns-in-Loop.ensures.1 in
+    let p = err_from_is_err_and c.from_residual-in_err-iterations-in-Loop.result c.from_residual-in_err-iterations-in-Loop.ensures.1 in
     rw (p.1, p.2)
     (loop-stops c.here-here.result files c.args.self.now.makefile (site_of c.args.site.now.value) c.here-here.result.loops.now
     (c.here-here.ensures.place files ∙ ap (λ site. place_at files c.args.self.now.makefile (site_of site)) c.deref.ensures)
     (c.here-here.ensures.loops ∙ ap (λ site. (site_of site).loops) c.deref.ensures)
     c.args.node.now c.in-Loop.head c.in-Loop.body c.in-Loop.is c.args.self.now.state c.args.self.now.budget (view c.args.files.now).log
-    c.in_err-turns-in-Loop.field-0.0 c.turns_at.new.budget c.in_err-turns-in-Loop.ensures.gives)
+    c.in_err-iterations-in-Loop.field-0.0 c.iterations_at.new.budget c.in_err-iterations-in-Loop.ensures.gives)

@@ -23,9 +23,9 @@ pub struct Iterations {
 #[derive(Drop)]
 pub struct Iteration {
     /// The iterations of the loop.
-    pub(crate) turns: Rc<Iterations>,
+    pub(crate) iterations: Rc<Iterations>,
     /// The index of this one among them, counted from 0.
     pub(crate) index: usize,
-    ghost inside: { index * length turns.value.names.items + length turns.value.names.items
-        ≤ length turns.value.words.items },
+    ghost inside: { index * length iterations.value.names.items + length iterations.value.names.items
+        ≤ length iterations.value.words.items },
 }

@@ -1,10 +1,10 @@
 //! The iterations of a loop.
 ghost use Rattle.std.specs.Prelude.{◌<◌, IfOk, length};
 ghost use Rattle.mk_base.specs.Meter.{IsLater};
-ghost use Rattle.mk_loop.specs.Scopes.{turns_in};
+ghost use Rattle.mk_loop.specs.Scopes.{iterations_in};
 ghost use Rattle.mk_eval.specs.Steps.{Pays, LoopAt, PaysAt, GoesInside};
 
-use crate::heads::{Head, loop_turns};
+use crate::heads::{Head, loop_iterations};
 use crate::includes::{ExecutedFile, ExecutedLine};
 use crate::state::EvalState;
 use mk_base::{Budget, Fault, PureStop};
@@ -17,7 +17,7 @@ use std::rc::Rc;
 ///
 /// At its line, it is `Budget` if no unit is left. In a loop, the faults of `mk_loop::put_words` come
 /// next. Then come those of `mk_loop::read_header`. The other error is that memory runs out.
-pub fn turns_at(
+pub fn iterations_at(
     alloc: Global,
     here: ExecutedFile<'_>,
     line: &Logical,
@@ -32,8 +32,8 @@ pub fn turns_at(
         loops: here.loops,
         text: line.text(),
     };
-    match loop_turns(alloc, head, budget) {
-        Ok(turns) => Ok(turns),
+    match loop_iterations(alloc, head, budget) {
+        Ok(iterations) => Ok(iterations),
         Err(stop) => Err(stop.blame(alloc, here.file.as_str(), line.line())),
     }
 }
@@ -41,7 +41,7 @@ pub fn turns_at(
 /// Spends the unit of an iteration of the loop that this line begins.
 ///
 /// It is `Budget` at the line if no unit is left. The other error is that memory runs out.
-pub fn begin_turn(
+pub fn begin_iteration(
     alloc: Global,
     line: ExecutedLine<'_>,
     budget: &mut Budget,
@@ -61,11 +61,11 @@ pub fn begin_turn(
 pub fn loops_at(
     alloc: Global,
     loops: &[Iteration],
-    turns: &Rc<Iterations>,
+    iterations: &Rc<Iterations>,
     index: usize,
 ) -> Result<Vec<Iteration>, AllocError>
-    requires { index < length (turns_in turns.now.value) }
-    ensures { GoesInside loops.now turns.now.value index result }
+    requires { index < length (iterations_in iterations.now.value) }
+    ensures { GoesInside loops.now iterations.now.value index result }
 {
-    inside(alloc, loops, Iteration::new(turns.clone()?, index))
+    inside(alloc, loops, Iteration::new(iterations.clone()?, index))
 }
