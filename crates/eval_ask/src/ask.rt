@@ -209,7 +209,7 @@ impl AskTurned {
 }
 
 impl Looked {
-    // What the evaluation has come to, after all that it has asked so far. If it is at its end, it is kept.
+    /// What the evaluation has come to, after all that it has asked so far. If it is at its end, it is kept.
     fn come_to(
         self,
         alloc: Global,
@@ -243,7 +243,7 @@ impl Looked {
     }
 }
 
-// Keeps an evaluation, if it can be shared once more.
+/// Keeps an evaluation, if it can be shared once more.
 fn keep(cache: &mut EvalCache, key: EvalKey, evaluation: &Rc<Evaluation>)
     requires { IsRight (key_of key) evaluation.now.value }
     ensures counts { cache.new.counts ≡ cache.old.counts }

@@ -1,4 +1,4 @@
-// The cache of parses and evaluations.
+//! The cache of parses and evaluations.
 ghost use Rattle.std.specs.Prelude.{◌≡◌, ◌≤◌, false, length, is_some, IfOk, OnOk, OnErr};
 ghost use Rattle.turn_amounts.specs.declared.TheConstants.{MOST_CHECKS};
 ghost use Rattle.std.specs.NonZero.{non_zero_usize_get};
@@ -177,8 +177,8 @@ impl EvalCache {
         put_new(&mut self.evals, self.purpose, key, kept);
     }
 
-    // The parse that is kept for this content, or else a new one, which is then kept if there is memory for
-    // that.
+    /// The parse that is kept for this content, or else a new one, which is then kept if there is memory for
+    /// that.
     fn kept_or_new(&mut self, content: &Content) -> Result<Parse, AllocError>
         ensures tree { IfOk result (λ found. tree_or_fault found ≡ parsed content.now) }
         ensures handed { OnOk result (HandsOut content.now self.old self.new) }
@@ -201,7 +201,7 @@ impl EvalCache {
         }
     }
 
-    // The parse that is kept for this content, if one is.
+    /// The parse that is kept for this content, if one is.
     fn kept_parse(&self, key: &ContentKey) -> Result<Option<Parse>, AllocError>
         ensures held { IfOk result (λ found. is_some found ≡ holds_parse self.now key.now.content) }
         ensures tree { GivesParseOf result key.now.content }
@@ -212,7 +212,7 @@ impl EvalCache {
         }
     }
 
-    // Keeps the parse of a content, if there is memory for that. If a walk fills the cache with it, it stands last.
+    /// Keeps the parse of a content, if there is memory for that. If a walk fills the cache with it, it stands last.
     fn keep_parse(&mut self, key: ContentKey, parse: &Parse)
         requires tree { tree_or_fault parse.now ≡ parsed key.content }
         requires anew { holds_parse self.old key.content ≡ false }
@@ -228,8 +228,8 @@ impl EvalCache {
         put_new(&mut self.parses, self.purpose, key, parse);
     }
 
-    // The first evaluation that is kept under the key and whose trace agrees with the files, and how many
-    // answers were checked.
+    /// The first evaluation that is kept under the key and whose trace agrees with the files, and how many
+    /// answers were checked.
     fn kept_evaluation<F: Files>(
         &self,
         key: &EvalKey,
@@ -273,7 +273,7 @@ impl Parses for EvalCache {
     }
 }
 
-// The size that is asked for, of which 0 counts as 1.
+/// The size that is asked for, of which 0 counts as 1.
 fn capacity(size: usize) -> NonZeroUsize
     ensures { non_zero_usize_get result ≡ size_for size }
 {
@@ -283,7 +283,7 @@ fn capacity(size: usize) -> NonZeroUsize
     }
 }
 
-// The tree of a file with this content, or its fault.
+/// The tree of a file with this content, or its fault.
 fn parse_anew(alloc: Global, content: &Content) -> Result<Parse, AllocError>
     ensures { IfOk result (λ found. tree_or_fault found ≡ parsed content.now) }
 {
@@ -294,7 +294,7 @@ fn parse_anew(alloc: Global, content: &Content) -> Result<Parse, AllocError>
     }
 }
 
-// The same parse once more, with the same tree.
+/// The same parse once more, with the same tree.
 fn share(parse: &Parse) -> Result<Parse, AllocError>
     ensures { IfOk result (λ shared. tree_or_fault shared ≡ tree_or_fault parse.now) }
 {
@@ -304,8 +304,8 @@ fn share(parse: &Parse) -> Result<Parse, AllocError>
     }
 }
 
-// An evaluation before older ones of its key, of which the newest stay. If there is no memory for it, there are
-// older ones alone.
+/// An evaluation before older ones of its key, of which the newest stay. If there is no memory for it, there are
+/// older ones alone.
 fn with_newest(
     alloc: Global,
     older: Option<Vec<Rc<Evaluation>>>,

@@ -1,4 +1,4 @@
-// Contents as keys of parses.
+//! Contents as keys of parses.
 ghost use Rattle.std.specs.Prelude.{◌≡◌, nat_eq};
 ghost use Rattle.std.proofs.Common.{rules};
 ghost use Rattle.std.specs.Cmp.Lexicographic.{pointwise};

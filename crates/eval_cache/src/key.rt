@@ -1,4 +1,4 @@
-// Keys of evaluations.
+//! Keys of evaluations.
 ghost use Rattle.std.specs.Prelude.{◌≡◌};
 ghost use Rattle.eval_cache.specs.Keys.{key_of, MakesKey, CopiesFlavors};
 
@@ -54,7 +54,7 @@ impl Clone for EvalKey {
     }
 }
 
-// The same flavors, or none.
+/// The same flavors, or none.
 fn copy_flavors(
     alloc: Global,
     flavors: Option<&[String]>,

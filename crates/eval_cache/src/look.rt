@@ -1,4 +1,4 @@
-// Evaluations that are kept under one key, looked at in turn.
+//! Evaluations that are kept under one key, looked at in turn.
 ghost use Rattle.std.specs.Prelude.{◌≤◌, IfOk};
 ghost use Rattle.turn_amounts.specs.declared.TheConstants.{MOST_CHECKS};
 ghost use Rattle.eval_cache.specs.Held.{AreShort, traces_of};

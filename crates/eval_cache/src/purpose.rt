@@ -1,4 +1,4 @@
-// What a cache is used for, and what goes first by that.
+//! What a cache is used for, and what goes first by that.
 ghost use Rattle.std.specs.Prelude.{◌≡◌, true, None};
 ghost use Rattle.std.specs.Map.{lookup_entry};
 ghost use Rattle.eval_cache.specs.CacheOrder as spec;
@@ -44,7 +44,7 @@ pub(crate) fn put_new<K: Clone + Eq + Hash, V: Drop>(
     let _last = table.demote(&same);
 }
 
-// Whether something new goes last in this table: it comes on a walk, and fills the table.
+/// Whether something new goes last in this table: it comes on a walk, and fills the table.
 fn goes_last<K: Eq + Hash, V>(table: &LruCache<K, V>, purpose: Purpose) -> bool
     ensures { result ≡ spec.goes_last purpose table.now.cap table.now.entries }
 {

@@ -33,7 +33,7 @@ pub(crate) fn paths_beside<F: Files + Drop>(
     Ok(beside)
 }
 
-// Adds those of these paths that have a row or a makefile.
+/// Adds those of these paths that have a row or a makefile.
 fn add_there<F: Files + Drop>(
     alloc: Global,
     files: &mut Recorder<F>,
@@ -53,7 +53,7 @@ fn add_there<F: Files + Drop>(
     Ok(())
 }
 
-// Whether a path has a row or a makefile.
+/// Whether a path has a row or a makefile.
 fn is_there<F: Files + Drop>(
     alloc: Global,
     files: &mut Recorder<F>,

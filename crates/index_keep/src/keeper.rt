@@ -200,7 +200,7 @@ impl<R: PathRows + Drop> Keeper<R> {
         self.progress.halt(alloc);
     }
 
-    // Whether no more names are to be kept.
+    /// Whether no more names are to be kept.
     fn is_full(&self) -> bool {
         match &self.progress {
             Progress::Changed(names, _) => names.len() >= MOST_CHANGED,
@@ -211,7 +211,7 @@ impl<R: PathRows + Drop> Keeper<R> {
         }
     }
 
-    // Marks the rows that asked for names that have changed, and forgets these names.
+    /// Marks the rows that asked for names that have changed, and forgets these names.
     fn write_marks(&mut self, alloc: Global) -> Result<(), FilesFault>
         ensures rows { KeepsShown R.entries self.old self.new }
         ensures progress { Stops self.old.progress self.new.progress }
@@ -226,14 +226,14 @@ impl<R: PathRows + Drop> Keeper<R> {
 }
 
 impl Progress {
-    // No name has changed.
+    /// No name has changed.
     pub(crate) fn nothing(alloc: Global) -> Progress
         ensures { HasForgotten result }
     {
         Progress::Changed(BTreeSet::new(alloc), None)
     }
 
-    // A refresh that is under way is dropped.
+    /// A refresh that is under way is dropped.
     fn halt(&mut self, alloc: Global)
         ensures { Halts self.old self.new }
     {
@@ -243,8 +243,8 @@ impl Progress {
         }
     }
 
-    // The file of this name has changed too, and may have been there before. A refresh that is under way is dropped. An
-    // index at hand stays in memory. If memory runs out, nothing changes.
+    /// The file of this name has changed too, and may have been there before. A refresh that is under way is dropped. An
+    /// index at hand stays in memory. If memory runs out, nothing changes.
     fn add_change(&mut self, alloc: Global, name: String, is_there: bool) -> Result<(), AllocError>
         ensures changed { OnOk result (AddsChanged name self.old self.new) }
         ensures dropped { OnOk result (DropsForChange name is_there self.old self.new) }
@@ -265,7 +265,7 @@ impl Progress {
         Ok(())
     }
 
-    // The index that is in memory, after a change of which it is told whether the file stays there.
+    /// The index that is in memory, after a change of which it is told whether the file stays there.
     fn into_held(self, stays: bool) -> Option<HeldIndex>
         ensures { result ≡ last_in stays self }
     {
@@ -286,7 +286,7 @@ impl Progress {
     }
 }
 
-// Whether a file is there before a change, or is no makefile.
+/// Whether a file is there before a change, or is no makefile.
 fn stays_there(name: &str, is_there: bool) -> bool
     ensures { result ≡ the_keeper.stays_there name.now is_there }
 {

@@ -29,7 +29,7 @@ pub(crate) struct LastLists {
 }
 
 impl LastIndex {
-    // Whether this path has an outdated row, which names the same paths as this row.
+    /// Whether this path has an outdated row, which names the same paths as this row.
     fn names_alike(&self, path: &str, row: &Row) -> bool
         ensures { result ≡ true → NamesAsBefore path.now (row_seen row.now) self.now }
     {

@@ -115,7 +115,7 @@ impl PathAsk {
         self.go_on(alloc, cache, files, before, units)
     }
 
-    // The same in a turn before which so much was spent on the path.
+    /// The same in a turn before which so much was spent on the path.
     fn go_on<F: Files + Drop>(
         self,
         alloc: Global,
@@ -242,8 +242,8 @@ impl FoundPath {
     }
 }
 
-// The makefile of a directory, if it is there, and what was asked to find it. It fails if the files fail, or if
-// memory runs out.
+/// The makefile of a directory, if it is there, and what was asked to find it. It fails if the files fail, or if
+/// memory runs out.
 fn place_of<F: Files + Drop>(
     alloc: Global,
     files: &mut Recorder<F>,
@@ -260,7 +260,7 @@ fn place_of<F: Files + Drop>(
     Ok((found, files.take_trace()))
 }
 
-// The names of the files that questions are about, in order.
+/// The names of the files that questions are about, in order.
 fn names_of(alloc: Global, questions: &[Question]) -> Result<Vec<String>, AllocError>
     ensures { IfOk result (λ names. map string_bytes names.items ≡ names_in questions.now) }
 {
@@ -269,7 +269,7 @@ fn names_of(alloc: Global, questions: &[Question]) -> Result<Vec<String>, AllocE
     Ok(names)
 }
 
-// Adds the names of the files that questions are about, in order, to other names.
+/// Adds the names of the files that questions are about, in order, to other names.
 fn add_names(
     alloc: Global,
     names: &mut Vec<String>,

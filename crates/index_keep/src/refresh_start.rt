@@ -91,13 +91,13 @@ pub(crate) fn begin_over(
     })
 }
 
-// Rows in two parts.
+/// Rows in two parts.
 struct Parted {
     left: MemoryRows,
     taken: MemoryRows,
 }
 
-// The rows that are left without those of these paths, and those of them.
+/// The rows that are left without those of these paths, and those of them.
 fn part(alloc: Global, known: MemoryRows, paths: &[String]) -> Result<Parted, AllocError>
     ensures left { IfOk result (λ parted. LeavesOut paths.now known parted.left) }
     ensures taken { IfOk result (λ parted. TakesOnly paths.now known parted.taken) }
@@ -141,7 +141,7 @@ struct Sorted {
     outdated: Vec<String>,
 }
 
-// The fresh ones of these stored rows, and the paths of those that asked for a name that has changed.
+/// The fresh ones of these stored rows, and the paths of those that asked for a name that has changed.
 fn sort(
     alloc: Global,
     stored: Vec<StoredRow>,
@@ -160,7 +160,7 @@ fn sort(
     Ok(sorted)
 }
 
-// Adds one stored row to those that were sorted.
+/// Adds one stored row to those that were sorted.
 fn add(
     alloc: Global,
     sorted: &mut Sorted,
@@ -178,7 +178,7 @@ fn add(
     Ok(())
 }
 
-// What a stored row is after files of these names have changed.
+/// What a stored row is after files of these names have changed.
 fn judge(
     alloc: Global,
     stored: &StoredRow,
@@ -195,7 +195,7 @@ fn judge(
     }
 }
 
-// What a row of so many bytes that isn't marked is after files of these names have changed.
+/// What a row of so many bytes that isn't marked is after files of these names have changed.
 fn judge_row(row: KeptRow, size: u64, changed: &BTreeSet<String>) -> Judged
     ensures { IsJudgedRow changed.now row result }
 {

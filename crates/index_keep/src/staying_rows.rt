@@ -29,8 +29,8 @@ pub(crate) fn leave_needed<R: PathRows>(
     }
 }
 
-// Takes out all rows but the fresh ones of needed paths, and gives the paths of the rows that it took out. If it fails, all
-// rows stay.
+/// Takes out all rows but the fresh ones of needed paths, and gives the paths of the rows that it took out. If it fails, all
+/// rows stay.
 fn take_out_others<R: PathRows>(
     alloc: Global,
     rows: &mut R,
@@ -50,7 +50,7 @@ fn take_out_others<R: PathRows>(
     Ok(others)
 }
 
-// Those of these paths whose rows aren't fresh ones of needed paths.
+/// Those of these paths whose rows aren't fresh ones of needed paths.
 fn others(
     alloc: Global,
     paths: Vec<String>,
@@ -69,7 +69,7 @@ fn others(
     Ok(others)
 }
 
-// What finds out which rows stay at the end of a walk. For paths in the order of their bytes, all take one pass.
+/// What finds out which rows stay at the end of a walk. For paths in the order of their bytes, all take one pass.
 #[derive(Drop)]
 struct StayingRows<'a> {
     listed: PathFinder<'a>,
@@ -78,7 +78,7 @@ struct StayingRows<'a> {
 }
 
 impl<'a> StayingRows<'a> {
-    // The fresh rows of needed paths.
+    /// The fresh rows of needed paths.
     fn new(last: &'a LastStage, beside: &'a [String]) -> StayingRows<'a>
         ensures { FindsStaying last.now (map string_bytes beside.now) result }
     {
@@ -89,7 +89,7 @@ impl<'a> StayingRows<'a> {
         }
     }
 
-    // Whether the row of a path is a fresh one of a needed path.
+    /// Whether the row of a path is a fresh one of a needed path.
     fn has(&mut self, path: &str) -> bool
         ensures stays { TellsStaying path.now self.old result }
         ensures finder { KeepsStaying self.old self.new }

@@ -111,7 +111,7 @@ impl<R: PathRows + Drop> Keeper<R> {
         }
     }
 
-    // Goes on with a walk that was taken out of the keeper: to its next path that has no fresh row, or to its end.
+    /// Goes on with a walk that was taken out of the keeper: to its next path that has no fresh row, or to its end.
     fn walk_on<F: Listing + Drop>(
         &mut self,
         alloc: Global,
@@ -143,7 +143,7 @@ impl<R: PathRows + Drop> Keeper<R> {
         }
     }
 
-    // Goes on with the evaluation of a path and with its walk, which were taken out of the keeper.
+    /// Goes on with the evaluation of a path and with its walk, which were taken out of the keeper.
     fn ask_on<F: Listing + Drop>(
         &mut self,
         alloc: Global,
@@ -166,8 +166,8 @@ impl<R: PathRows + Drop> Keeper<R> {
         self.settle(alloc, writing, before, turned)
     }
 
-    // Writes the row of a path, if it is made, or keeps its evaluation for the next turn. So much was spent on it
-    // before this turn.
+    /// Writes the row of a path, if it is made, or keeps its evaluation for the next turn. So much was spent on it
+    /// before this turn.
     fn settle(
         &mut self,
         alloc: Global,
@@ -197,7 +197,7 @@ impl<R: PathRows + Drop> Keeper<R> {
         }
     }
 
-    // Ends a refresh: takes out the rows that nothing needs, and keeps at hand what the others say.
+    /// Ends a refresh: takes out the rows that nothing needs, and keeps at hand what the others say.
     fn end(&mut self, alloc: Global, last: LastStage) -> Result<(), FilesFault>
         ensures ends { EndsWalk R.entries last self.old self.new result }
         ensures kept { KeepsAtEnd R.entries last self.old self.new result }
@@ -223,8 +223,8 @@ impl<R: PathRows + Drop> Keeper<R> {
         Ok(())
     }
 
-    // Reads what the rows say, all of which are right; the index's paths were taken out of the keeper. If that fails,
-    // they are put back.
+    /// Reads what the rows say, all of which are right; the index's paths were taken out of the keeper. If that fails,
+    /// they are put back.
     fn read_index(&mut self, alloc: Global, paths: IndexPaths) -> Result<(), FilesFault>
         ensures rows { ShowsSame (shown_in R.entries self.old.rows) (keeper_rows R.entries self.new) }
         ensures begun { begun_in self.new.progress ≡ no_spending }
@@ -248,8 +248,8 @@ impl<R: PathRows + Drop> Keeper<R> {
         }
     }
 
-    // The walk with which a refresh begins after files of these names have changed, by the index before that, if it is
-    // in memory. If that fails, the names are kept.
+    /// The walk with which a refresh begins after files of these names have changed, by the index before that, if it is
+    /// in memory. If that fails, the names are kept.
     fn begun<F: Listing + Drop>(
         &mut self,
         alloc: Global,
@@ -276,8 +276,8 @@ impl<R: PathRows + Drop> Keeper<R> {
     }
 }
 
-// Gives a path this row, which is fresh and is written with this profile, and tells the walk of it. If it fails, all
-// rows are as they were.
+/// Gives a path this row, which is fresh and is written with this profile, and tells the walk of it. If it fails, all
+/// rows are as they were.
 fn put_row<R: PathRows>(
     alloc: Global,
     rows: &mut R,

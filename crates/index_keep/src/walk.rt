@@ -119,8 +119,8 @@ pub(crate) fn begin_walk<F: Listing + Drop, R: PathRows>(
     }
 }
 
-// The stage with which a walk begins over the index of before: over its directories if that serves, or else over those that
-// are there.
+/// The stage with which a walk begins over the index of before: over its directories if that serves, or else over those that
+/// are there.
 fn first_stage<F: Listing + Drop>(
     alloc: Global,
     files: &mut Recorder<F>,
@@ -137,7 +137,7 @@ fn first_stage<F: Listing + Drop>(
     Ok(other_stage(alloc, directories, begun)?)
 }
 
-// The stage of the directories of before, whose lists may be kept.
+/// The stage of the directories of before, whose lists may be kept.
 fn kept_stage(alloc: Global, begun: Begun) -> Result<DirectoryStage, AllocError>
     ensures { FollowsLast begun result }
 {
@@ -154,7 +154,7 @@ fn kept_stage(alloc: Global, begun: Begun) -> Result<DirectoryStage, AllocError>
     })
 }
 
-// The stage of other directories.
+/// The stage of other directories.
 fn other_stage(
     alloc: Global,
     directories: Vec<String>,
@@ -251,7 +251,7 @@ fn next_directory<F: Files + Drop>(
     }
 }
 
-// The stage of the listed paths, after that of the directories. The list of the index of before is kept, if it may be.
+/// The stage of the listed paths, after that of the directories. The list of the index of before is kept, if it may be.
 fn listed_stage(alloc: Global, first: DirectoryStage) -> Result<ListedStage, AllocError>
     ensures { ComesToListed first result }
 {
@@ -306,7 +306,7 @@ fn next_listed<F: Files + Drop>(
     }
 }
 
-// The stage of the paths beside the listed ones, after that of these.
+/// The stage of the paths beside the listed ones, after that of these.
 fn last_stage<F: Files + Drop>(
     alloc: Global,
     files: &mut Recorder<F>,

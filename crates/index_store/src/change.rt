@@ -1,5 +1,5 @@
-// The calls that write, each in one transaction. With `has_earlier` the table of the release before may have a
-// row; without it that table has none, and no statement runs on it.
+//! The calls that write, each in one transaction. With `has_earlier` the table of the release before may have a
+//! row; without it that table has none, and no statement runs on it.
 ghost use Rattle.std.specs.Prelude.{◌≡◌, OnOk, OnErr, IfOk, None, true};
 ghost use Rattle.sql_facts.specs.States.{IsOpen, KeepsCommit, Stays, state_of};
 ghost use Rattle.index_store.specs.PortTable.{IsKeptWith, AllowsFor, IsFormed, Holds};
@@ -40,7 +40,7 @@ pub(crate) fn open(alloc: Global) -> Result<Connection<MemStore>, Error>
     Ok(conn)
 }
 
-// Gives the row of a path this mark, in whichever table it is.
+/// Gives the row of a path this mark, in whichever table it is.
 fn mark_path(
     tx: &mut Transaction<'_, MemStore>,
     has_earlier: bool,
@@ -59,7 +59,7 @@ fn mark_path(
     set_mark(tx, Part::Earlier, path, mark)
 }
 
-// Takes out the rows that are marked so, of both tables.
+/// Takes out the rows that are marked so, of both tables.
 fn take_leaving(tx: &mut Transaction<'_, MemStore>, has_earlier: bool) -> Result<(), Error>
     requires open { IsOpen IsFormed (state_of tx.old.conn.now) }
     requires earlier { AllowsFor has_earlier (rows_of tx.old.conn.now) }
@@ -73,7 +73,7 @@ fn take_leaving(tx: &mut Transaction<'_, MemStore>, has_earlier: bool) -> Result
     delete_leaving(tx, Part::Earlier)
 }
 
-// Takes the row of a path out of the table of the release before, if there is one.
+/// Takes the row of a path out of the table of the release before, if there is one.
 fn take_earlier(tx: &mut Transaction<'_, MemStore>, path: &str) -> Result<(), Error>
     requires { IsOpen IsFormed (state_of tx.old.conn.now) }
     ensures kept { KeepsCommit tx.old.conn tx.new.conn }
@@ -83,7 +83,7 @@ fn take_earlier(tx: &mut Transaction<'_, MemStore>, path: &str) -> Result<(), Er
     delete_leaving(tx, Part::Earlier)
 }
 
-// Gives a path this row in the table of today, in place of the one there or as the last. A path that is new has none.
+/// Gives a path this row in the table of today, in place of the one there or as the last. A path that is new has none.
 fn put_current<'x>(
     tx: &mut Transaction<'_, MemStore>,
     is_new: bool,
@@ -105,8 +105,8 @@ fn put_current<'x>(
     insert_current(tx, path, profile, text)
 }
 
-// Gives a path this row in the table of today, and takes out the one that the release before wrote. A path that is new
-// has none in the table of today.
+/// Gives a path this row in the table of today, and takes out the one that the release before wrote. A path that is new
+/// has none in the table of today.
 fn put<'x>(
     tx: &mut Transaction<'_, MemStore>,
     has_earlier: bool,
@@ -128,7 +128,7 @@ fn put<'x>(
     take_earlier(tx, path)
 }
 
-// Gives a path this row as the release before wrote it, and takes out the one there.
+/// Gives a path this row as the release before wrote it, and takes out the one there.
 fn put_earlier<'x>(
     tx: &mut Transaction<'_, MemStore>,
     has_earlier: bool,
@@ -145,7 +145,7 @@ fn put_earlier<'x>(
     insert_earlier(tx, path, text)
 }
 
-// Gives the rows of these paths this mark, in whichever table they are.
+/// Gives the rows of these paths this mark, in whichever table they are.
 fn set_marks(
     tx: &mut Transaction<'_, MemStore>,
     has_earlier: bool,
@@ -163,7 +163,7 @@ fn set_marks(
     Ok(())
 }
 
-// Marks all rows of both tables stale.
+/// Marks all rows of both tables stale.
 fn mark_tables(tx: &mut Transaction<'_, MemStore>, has_earlier: bool) -> Result<(), Error>
     requires open { IsOpen IsFormed (state_of tx.old.conn.now) }
     requires earlier { AllowsFor has_earlier (rows_of tx.old.conn.now) }
@@ -177,7 +177,7 @@ fn mark_tables(tx: &mut Transaction<'_, MemStore>, has_earlier: bool) -> Result<
     mark_table(tx, Part::Earlier)
 }
 
-// Takes out the rows of these paths, of both tables.
+/// Takes out the rows of these paths, of both tables.
 fn take_out(
     tx: &mut Transaction<'_, MemStore>,
     has_earlier: bool,
@@ -192,7 +192,7 @@ fn take_out(
     take_leaving(tx, has_earlier)
 }
 
-// The statements of a change.
+/// The statements of a change.
 fn make(
     tx: &mut Transaction<'_, MemStore>,
     has_earlier: bool,
@@ -220,7 +220,7 @@ fn make(
     }
 }
 
-// Makes the change in one transaction. Each table is told of alone.
+/// Makes the change in one transaction. Each table is told of alone.
 fn commit(
     conn: &mut Connection<MemStore>,
     has_earlier: bool,

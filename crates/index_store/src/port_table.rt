@@ -1,4 +1,4 @@
-// The statements on the two tables of the rows.
+//! The statements on the two tables of the rows.
 ghost use Rattle.std.specs.Prelude.{◌≡◌, [], None, IfOk, OnOk, false};
 ghost use Rattle.sql_facts.specs.Tables.{no_schema};
 ghost use Rattle.sql_facts.specs.States.{IsOpen, KeepsCommit, Stays, state_of};
@@ -22,7 +22,7 @@ pub(crate) enum Part {
 }
 
 impl Part {
-    // The query of all rows.
+    /// The query of all rows.
     fn rows_query(self) -> &'static str
         ensures { result.now ≡ select_rows self }
     {
@@ -32,7 +32,7 @@ impl Part {
         }
     }
 
-    // The statement that marks the row of a path.
+    /// The statement that marks the row of a path.
     fn mark_statement(self) -> &'static str
         ensures { result.now ≡ mark_row self }
     {
@@ -42,7 +42,7 @@ impl Part {
         }
     }
 
-    // The statement that marks all rows stale.
+    /// The statement that marks all rows stale.
     fn marks_statement(self) -> &'static str
         ensures { result.now ≡ mark_rows self }
     {
@@ -52,7 +52,7 @@ impl Part {
         }
     }
 
-    // The statement that takes out the rows that are marked so.
+    /// The statement that takes out the rows that are marked so.
     fn delete_statement(self) -> &'static str
         ensures { result.now ≡ delete_rows self }
     {
@@ -73,7 +73,7 @@ pub(crate) enum Mark {
 }
 
 impl Mark {
-    // The number of the mark in a table.
+    /// The number of the mark in a table.
     fn number(self) -> u32
         ensures { result ≡ mark_number self }
     {

@@ -1,4 +1,4 @@
-// Reading what the statements show.
+//! Reading what the statements show.
 ghost use Rattle.std.specs.Prelude.{◌≡◌, IfOk, OnOk};
 ghost use Rattle.sql_facts.specs.States.{Stays, state_of};
 ghost use Rattle.index_store.specs.Entries.{AreStored, stored_seen};
@@ -19,7 +19,7 @@ fn row_from(row: &Row) -> Result<StoredRow, Error>
     })
 }
 
-// Adds these rows. Each goes once it is read, so that the next takes its place in memory.
+/// Adds these rows. Each goes once it is read, so that the next takes its place in memory.
 fn add_rows(stored: &mut Vec<StoredRow>, rows: Vec<Row>) -> Result<(), Error>
     ensures { OnOk result (AddsShown rows.items stored.old.items stored.new.items) }
 {

@@ -1,4 +1,4 @@
-// The rows of one tenant's index, as its callers see them.
+//! The rows of one tenant's index, as its callers see them.
 ghost use Rattle.std.specs.Prelude.{◌≡◌, not, IfOk, OnOk, OnErr};
 ghost use Rattle.std.specs.BTreeSet.{contains_text};
 ghost use Rattle.index_store.specs.Entries.{HasNoRow, SameRows, KeepsProfiles};
@@ -21,10 +21,10 @@ use sql_facts::Sqlite;
 #[derive(Drop)]
 pub struct IndexStore {
     conn: Connection<MemStore>,
-    // Whether the table of the release before may have a row.
+    /// Whether the table of the release before may have a row.
     has_earlier: bool,
     alloc: Global,
-    // The paths that have a row.
+    /// The paths that have a row.
     paths: BTreeSet<String>,
 }
 
@@ -144,7 +144,7 @@ impl PathRows for IndexStore {
     }
 }
 
-// The paths that are noted, as a list.
+/// The paths that are noted, as a list.
 fn list_of(alloc: Global, noted: &BTreeSet<String>) -> Result<Vec<String>, AllocError>
     ensures { IfOk result (ListsNoted noted.now) }
 {
@@ -155,7 +155,7 @@ fn list_of(alloc: Global, noted: &BTreeSet<String>) -> Result<Vec<String>, Alloc
     Ok(listed)
 }
 
-// Notes a path, and says whether it wasn't noted before. If memory runs out, nothing changes.
+/// Notes a path, and says whether it wasn't noted before. If memory runs out, nothing changes.
 fn note(alloc: Global, paths: &mut BTreeSet<String>, path: &str) -> Result<bool, AllocError>
     ensures is_new { IfOk result (λ is_new. is_new ≡ not (contains_text paths.old path.now)) }
     ensures noted { OnOk result (NotesPath path.now paths.old paths.new) }
@@ -170,7 +170,7 @@ fn note(alloc: Global, paths: &mut BTreeSet<String>, path: &str) -> Result<bool,
     }
 }
 
-// Takes a path out of those that are noted, if it is new.
+/// Takes a path out of those that are noted, if it is new.
 fn forget_if(is_new: bool, noted: &mut BTreeSet<String>, path: &str)
     ensures { ForgetsIf is_new path.now noted.old noted.new }
 {
@@ -179,7 +179,7 @@ fn forget_if(is_new: bool, noted: &mut BTreeSet<String>, path: &str)
     }
 }
 
-// Takes these paths out of those that are noted.
+/// Takes these paths out of those that are noted.
 fn forget(noted: &mut BTreeSet<String>, paths: &[String])
     ensures { ForgetsAll paths.now noted.old noted.new }
 {

@@ -1,3 +1,4 @@
+//! The budget of an evaluation: units of work and questions about files.
 ghost use Rattle.std.specs.Prelude.{◌≡◌, ◌≤◌};
 ghost use Rattle.mk_base.specs.Meter.{full, pay, question, IsLater};
 ghost use Rattle.mk_base.specs.Stops.{GivesOnly};

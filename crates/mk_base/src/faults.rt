@@ -1,3 +1,4 @@
+//! The kinds of fault of make files, and a fault with its place.
 ghost use Rattle.std.specs.Prelude.{◌≡◌, IfOk};
 ghost use Rattle.mk_base.specs.Faults.{fault_number};
 ghost use Rattle.mk_base.specs.FaultAt.{fault_at};

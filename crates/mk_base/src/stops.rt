@@ -1,3 +1,4 @@
+//! How work stops: at a fault, by a store that fails, or as memory runs out.
 ghost use Rattle.std.specs.Prelude.{◌≡◌};
 ghost use Rattle.refusals.specs.Refused.{refused};
 ghost use Rattle.mk_base.specs.declared.stops.PureStop.TheVariants as pure;

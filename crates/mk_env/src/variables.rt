@@ -1,3 +1,4 @@
+//! The variables of a makefile (`Env`): set, appended to, undefined, copied.
 ghost use Rattle.std.specs.Prelude.{◌≡◌, ◌∷◌, OnOk, OnErr, ◌↔◌, IsTrue, option_map, is_some, IfOk};
 ghost use Rattle.std.specs.Option.{option_copied};
 ghost use Rattle.mk_env.specs.Texts.{defaulted, language_of, no_variables, text_in};

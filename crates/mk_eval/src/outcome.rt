@@ -1,3 +1,4 @@
+//! What an evaluation leaves, or the fault at which it stopped with its cost.
 ghost use Rattle.std.specs.Prelude.{◌≡◌, string_bytes};
 ghost use Rattle.mk_eval.specs.Outcome as outcome;
 

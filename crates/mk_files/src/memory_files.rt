@@ -1,4 +1,4 @@
-// A world of files kept in memory.
+//! A world of files kept in memory.
 ghost use Rattle.std.specs.Prelude.{◌≡◌, OnOk, OnErr};
 ghost use Rattle.refusals.specs.Refused.{refused};
 ghost use Rattle.std.specs.Option.{option_copied};
@@ -67,7 +67,7 @@ impl MemoryFiles {
         self.files.get(name.as_str())
     }
 
-    // Counts one more reading that failed, and gives its fault.
+    /// Counts one more reading that failed, and gives its fault.
     fn failed(&mut self, error: AllocError) -> FilesFault
         ensures counted { Fails (view_of self.old) (view_of self.new) }
         ensures memory { result ≡ FilesFault.Memory refused }
@@ -108,7 +108,7 @@ impl Listing for MemoryFiles {
     }
 }
 
-// The names of these files, in the order of their bytes.
+/// The names of these files, in the order of their bytes.
 fn names_of(alloc: Global, files: &BTreeMap<String, Content>) -> Result<Vec<String>, AllocError>
     ensures { ListsNames result (files_of files.now.entries) }
 {

@@ -1,4 +1,4 @@
-// The ways in which work on makefiles asks about files.
+//! The ways in which work on makefiles asks about files.
 ghost use Rattle.std.specs.Prelude.{◌≡◌, [], IfOk, IfErr, OnOk, OnErr};
 ghost use Rattle.std.specs.FinMap.{get, contains_key};
 ghost use Rattle.mk_base.specs.Meter.{question, IsLater};

@@ -1,4 +1,4 @@
-// Contents of files, which many holders may share at once.
+//! Contents of files, which many holders may share at once.
 ghost use Rattle.std.specs.Prelude.{◌≡◌, IfOk};
 
 use std::alloc::{AllocError, Global};

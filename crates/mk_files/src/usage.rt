@@ -1,4 +1,4 @@
-// How many files a tenant has, and how many bytes.
+//! How many files a tenant has, and how many bytes.
 ghost use Rattle.std.specs.Prelude.{◌≡◌, ◌≤◌, false, IfSome, unwrap_or};
 ghost use Rattle.mk_files.specs.Limits.{files_with, bytes_with, exceeds_limits, IsOverWith};
 

@@ -1,4 +1,4 @@
-// Worlds of files that can be read.
+//! Worlds of files that can be read.
 ghost use Rattle.std.specs.Prelude.{◌≡◌, IfErr, OnOk, OnErr};
 ghost use Rattle.mk_paths.specs.FilesView.{Fails, AnswersContents};
 ghost use Rattle.mk_files.specs.MemoryFiles.{ListsNames};

@@ -1,4 +1,4 @@
-// Names of files as a world of files knows them.
+//! Names of files as a world of files knows them.
 ghost use Rattle.std.specs.Prelude.{◌≡◌, IfOk, [], if◌then◌else◌};
 ghost use Rattle.refusals.specs.Refused.{refused};
 ghost use Rattle.std.specs.List.{list_all};
@@ -150,15 +150,15 @@ pub(crate) fn is_plain_byte(byte: u8) -> bool
     33 <= byte && byte <= 126
 }
 
-// Whether each byte is printable ASCII without blanks.
+/// Whether each byte is printable ASCII without blanks.
 fn is_plain_text(text: &str) -> bool
     ensures { result ≡ list_all is_plain text.now }
 {
     text.bytes().all(|byte| is_plain_byte(byte))
 }
 
-// The parts that are left when empty and `.` parts are dropped and each `..` removes the part before it;
-// `None` if a `..` has no part before it.
+/// The parts that are left when empty and `.` parts are dropped and each `..` removes the part before it;
+/// `None` if a `..` has no part before it.
 fn kept_of<'a>(alloc: Global, parts: &[&'a str]) -> Result<Option<Vec<&'a str>>, AllocError>
     ensures { KeepsParts result parts.now }
 {
@@ -172,8 +172,8 @@ fn kept_of<'a>(alloc: Global, parts: &[&'a str]) -> Result<Option<Vec<&'a str>>,
     Ok(Some(kept))
 }
 
-// Takes the next part after those kept so far. It gives false if the part is a `..` with no part before
-// it, and otherwise true.
+/// Takes the next part after those kept so far. It gives false if the part is a `..` with no part before
+/// it, and otherwise true.
 fn take_part<'a>(kept: &mut Vec<&'a str>, part: &'a str) -> Result<bool, AllocError>
     ensures { TakesPart result kept.old.items kept.new.items part.now }
 {
@@ -187,7 +187,7 @@ fn take_part<'a>(kept: &mut Vec<&'a str>, part: &'a str) -> Result<bool, AllocEr
     }
 }
 
-// The parts one after another, each after a slash.
+/// The parts one after another, each after a slash.
 fn join(alloc: Global, parts: &[&str]) -> Result<String, AllocError>
     ensures { IfOk result (λ text. string_bytes text ≡ with_slashes (now_all parts.now)) }
 {

@@ -1,4 +1,4 @@
-// Asking whether files are there.
+//! Asking whether files are there.
 ghost use Rattle.std.specs.Prelude.{◌≡◌, ◌↔◌, IfErr, OnErr};
 ghost use Rattle.refusals.specs.Refused.{refused};
 ghost use Rattle.mk_paths.specs.FilesView.{FilesView, Fails, AnswersPresence};

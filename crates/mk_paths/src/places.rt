@@ -1,4 +1,4 @@
-// Where a directory's makefile is.
+//! Where a directory's makefile is.
 ghost use Rattle.mk_paths.specs.Place.{FindsPlace, SeeksPlace};
 ghost use Rattle.mk_paths.specs.Place.{StopsSeeking, GivesCandidate};
 
@@ -37,7 +37,7 @@ pub fn find<N: Names>(
     Ok(None)
 }
 
-// The name of a directory's makefile in a tree; `None` if the text is no file name.
+/// The name of a directory's makefile in a tree; `None` if the text is no file name.
 fn candidate(alloc: Global, tree: &str, directory: &str) -> Result<Option<Name>, AllocError>
     ensures { GivesCandidate result tree.now directory.now }
 {

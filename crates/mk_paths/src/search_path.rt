@@ -1,4 +1,4 @@
-// The ports trees that are searched for a port's directory.
+//! The ports trees that are searched for a port's directory.
 ghost use Rattle.std.specs.Prelude.{◌≡◌, IfOk, IsErrOf, map};
 ghost use Rattle.refusals.specs.Refused.{refused};
 ghost use Rattle.std.specs.List.{list_all};
@@ -111,21 +111,21 @@ pub struct Settings {
     pub profile: Profile,
 }
 
-// Whether the texts are one to eight trees.
+/// Whether the texts are one to eight trees.
 fn is_path(texts: &[&str]) -> bool
     ensures { result ≡ is_search_path (now_all texts.now) }
 {
     !texts.is_empty() && texts.len() <= MOST_TREES && are_trees(texts)
 }
 
-// Whether each text is a tree.
+/// Whether each text is a tree.
 fn are_trees(texts: &[&str]) -> bool
     ensures { result ≡ list_all (λ text. is_tree text.now) texts.now }
 {
     texts.iter().all(|text| is_tree_text(text))
 }
 
-// Whether a text is a slash and one part.
+/// Whether a text is a slash and one part.
 fn is_tree_text(text: &str) -> bool
     ensures { result ≡ is_tree text.now }
 {
@@ -135,7 +135,7 @@ fn is_tree_text(text: &str) -> bool
     }
 }
 
-// Whether a text is one part of a tree's name.
+/// Whether a text is one part of a tree's name.
 fn is_part_text(part: &str) -> bool
     ensures { result ≡ is_part part.now }
 {
@@ -145,14 +145,14 @@ fn is_part_text(part: &str) -> bool
     }
 }
 
-// Whether each byte may be in the part of a tree's name.
+/// Whether each byte may be in the part of a tree's name.
 fn has_part_bytes(text: &str) -> bool
     ensures { result ≡ list_all may_be_in_part text.now }
 {
     text.bytes().all(|byte| is_part_byte(byte))
 }
 
-// Whether a byte may be in the part of a tree's name.
+/// Whether a byte may be in the part of a tree's name.
 fn is_part_byte(byte: u8) -> bool
     ensures { result ≡ may_be_in_part byte }
 {

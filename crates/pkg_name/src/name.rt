@@ -1,4 +1,4 @@
-// Names of packages: cutting them into stem, version and flavors, and printing them.
+//! Names of packages: cutting them into stem, version and flavors, and printing them.
 ghost use Rattle.std.specs.Prelude.{◌≡◌, not, IfOk, IsErrOf, Some, None, map};
 ghost use Rattle.refusals.specs.Refused.{refused};
 ghost use Rattle.std.specs.List.{list_all};
@@ -102,7 +102,7 @@ impl PkgName {
         format!(in alloc; "{self}")
     }
 
-    // What is so of each name. The function does nothing.
+    /// What is so of each name. The function does nothing.
     fn is_split_from_its_text(&self)
         ensures { split_name (name_text self.now) ≡ Some self.now }
     {
@@ -146,15 +146,15 @@ impl fmt::Display for PkgName {
     }
 }
 
-// What is before the first dash that a digit follows, and what follows that dash.
+/// What is before the first dash that a digit follows, and what follows that dash.
 fn cut_at_version(text: &str) -> Option<(&str, &str)>
     ensures { CutsAtVersion result text.now }
 {
     cut_where(text, '-', begins_with_digit)
 }
 
-// The words after a stem as a version, not read yet, and flavors; `None` if the stem or a
-// flavor isn't one.
+/// The words after a stem as a version, not read yet, and flavors; `None` if the stem or a
+/// flavor isn't one.
 fn version_and_flavors<'a, 'b>(stem: &str, words: &'b [&'a str]) -> Option<(&'a str, &'b [&'a str])>
     ensures { CutsFlavors result stem.now words.now }
 {
@@ -166,28 +166,28 @@ fn version_and_flavors<'a, 'b>(stem: &str, words: &'b [&'a str]) -> Option<(&'a 
     }
 }
 
-// Whether each text is a stem or a flavor.
+/// Whether each text is a stem or a flavor.
 fn are_words(texts: &[&str]) -> bool
     ensures { result ≡ list_all (λ text. is_stem_or_flavor text.now) texts.now }
 {
     texts.iter().all(|text| is_word_text(text))
 }
 
-// Whether a text is a stem or a flavor.
+/// Whether a text is a stem or a flavor.
 fn is_word_text(text: &str) -> bool
     ensures { result ≡ is_stem_or_flavor text.now }
 {
     !text.is_empty() && has_word_bytes(text)
 }
 
-// Whether each byte may be in a stem or a flavor.
+/// Whether each byte may be in a stem or a flavor.
 fn has_word_bytes(text: &str) -> bool
     ensures { result ≡ list_all (λ byte. not (is_forbidden byte)) text.now }
 {
     text.bytes().all(|byte| !is_forbidden_byte(byte))
 }
 
-// Whether a byte is in no stem and in no flavor.
+/// Whether a byte is in no stem and in no flavor.
 fn is_forbidden_byte(byte: u8) -> bool
     ensures { result ≡ is_forbidden byte }
 {

@@ -1,4 +1,4 @@
-// Versions of packages: reading, printing and comparing them.
+//! Versions of packages: reading, printing and comparing them.
 ghost use Rattle.std.specs.Prelude.{◌≡◌, IfOk, IsErrOf, Some, false, true, refl};
 ghost use Rattle.refusals.specs.Refused.{refused};
 ghost use Rattle.std.specs.List.{list_all};
@@ -138,7 +138,7 @@ impl Ord for Version {
     }
 }
 
-// Whether a text is a version.
+/// Whether a text is a version.
 fn is_version_text(text: &[u8]) -> bool
     ensures { result ≡ is_version text.now }
 {
@@ -155,21 +155,21 @@ pub(crate) fn begins_with_digit(text: &[u8]) -> bool
     }
 }
 
-// Whether each byte may be in a version.
+/// Whether each byte may be in a version.
 fn has_version_bytes(text: &[u8]) -> bool
     ensures { result ≡ list_all is_version_byte text.now }
 {
     text.iter().all(|byte| may_be_in_version(*byte))
 }
 
-// Whether a byte may be in a version.
+/// Whether a byte may be in a version.
 fn may_be_in_version(byte: u8) -> bool
     ensures { result ≡ is_version_byte byte }
 {
     byte.is_ascii_alphanumeric() || byte == b'.' || byte == b'_' || byte == b'+'
 }
 
-// Whether no number has more than 18 digits.
+/// Whether no number has more than 18 digits.
 fn numbers_are_short(text: &[u8]) -> bool
     ensures { result ≡ has_short_numbers text.now }
 {

@@ -1,4 +1,4 @@
-// Why a text names no path.
+//! Why a text names no path.
 ghost use Rattle.std.specs.Prelude.{◌≡◌};
 ghost use Rattle.refusals.specs.Refused.{refused};
 ghost use Rattle.pkg_path.specs.Paths.{refusal_number};

@@ -1,4 +1,4 @@
-// Package paths.
+//! Package paths.
 ghost use Rattle.std.specs.Prelude.{◌≡◌, ◌↔◌, IsTrue, IfOk, map, option_map, Some};
 ghost use Rattle.std.specs.String.{string_bytes};
 ghost use Rattle.std.specs.Option.{option_copied};
@@ -216,7 +216,7 @@ impl Eq for PkgPath {
     ghost laws = { on_equiv canonical nat_list_eq_equiv };
 }
 
-// The same subpackage, or none.
+/// The same subpackage, or none.
 fn copy_name(alloc: Global, name: &Option<String>) -> Result<Option<String>, AllocError>
     ensures { CopiesName result name.now }
 {
@@ -226,7 +226,7 @@ fn copy_name(alloc: Global, name: &Option<String>) -> Result<Option<String>, All
     }
 }
 
-// Whether these are the same subpackage, or both none.
+/// Whether these are the same subpackage, or both none.
 fn same_subpackage(one: &Option<String>, other: &Option<String>) -> bool
     ensures { TellsSameName result one.now other.now }
 {

@@ -1,4 +1,4 @@
-// The comparisons of a spec.
+//! The comparisons of a spec.
 ghost use Rattle.std.specs.Prelude.{◌≡◌};
 ghost use Rattle.pkg_name.specs.Order.{version_cmp};
 ghost use Rattle.pkg_spec.specs.Alternatives.{signed, versions_of, comparisons_in};
@@ -60,7 +60,7 @@ impl Comparison {
     }
 }
 
-// The sign of a comparison, and what follows it.
+/// The sign of a comparison, and what follows it.
 fn signed(text: &str) -> (ComparisonSign, &str)
     ensures sign { result.0 ≡ (signed text.now).sign }
     ensures version { result.1.now ≡ (signed text.now).version }
@@ -98,7 +98,7 @@ pub(crate) fn read_versions(
     read_comparisons(alloc, &pieces)
 }
 
-// The comparisons of texts; `None` if one of them is no comparison.
+/// The comparisons of texts; `None` if one of them is no comparison.
 fn read_comparisons(alloc: Global, texts: &[&str]) -> Result<Option<Vec<Comparison>>, AllocError>
     ensures { ReadsComparisons result (comparisons_in (now_all texts.now)) }
 {

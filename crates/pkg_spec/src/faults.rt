@@ -1,4 +1,4 @@
-// Why a text is no spec.
+//! Why a text is no spec.
 ghost use Rattle.std.specs.Prelude.{◌≡◌};
 ghost use Rattle.refusals.specs.Refused.{refused};
 ghost use Rattle.pkg_spec.specs.Alternatives.{refusal_number};

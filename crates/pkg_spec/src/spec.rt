@@ -1,4 +1,4 @@
-// Specs of packages.
+//! Specs of packages.
 ghost use Rattle.std.specs.Prelude.{◌≡◌, ◌==◌, ◌++◌, ◌||◌, IfOk, IsErrOf, Some, IsOk, map, option_to_list};
 ghost use Rattle.std.specs.List.{slice_split, filter_map, list_any};
 ghost use Rattle.std.specs.Result.{result_ok};
@@ -104,7 +104,7 @@ impl fmt::Display for Spec {
     }
 }
 
-// Whether one of the alternatives admits a name.
+/// Whether one of the alternatives admits a name.
 fn one_admits(alternatives: &[Alternative], name: &PkgName) -> bool
     ensures { result ≡ one_admits alternatives.now name.now }
 {
@@ -113,7 +113,7 @@ fn one_admits(alternatives: &[Alternative], name: &PkgName) -> bool
         .any(|alternative| alternative.admits(name))
 }
 
-// The alternatives that are read so far, and for each refusal whether one of the texts had it.
+/// The alternatives that are read so far, and for each refusal whether one of the texts had it.
 #[derive(Drop)]
 struct Reading {
     alternatives: Vec<Alternative>,
@@ -123,7 +123,7 @@ struct Reading {
 }
 
 impl Reading {
-    // With one more alternative.
+    /// With one more alternative.
     fn with(mut self, alloc: Global, text: &str) -> Result<Reading, AllocError>
         ensures alternatives { AddsIfRead result self text.now }
         ensures no_stem { NotesRefusal result SpecFault.NoStem self text.now }
@@ -141,7 +141,7 @@ impl Reading {
     }
 }
 
-// What the parts of a spec say.
+/// What the parts of a spec say.
 fn read_parts(alloc: Global, parts: &[&str]) -> Result<Reading, AllocError>
     ensures { IfOk result (ReadsParts (now_all parts.now)) }
 {

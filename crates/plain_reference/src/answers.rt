@@ -74,7 +74,7 @@ pub fn effort_for<F: Listing>(
     }
 }
 
-// The reply to a question about a port, and the work that it took.
+/// The reply to a question about a port, and the work that it took.
 fn port_reply<F: Listing>(
     alloc: Global,
     files: &mut F,

@@ -27,8 +27,8 @@ pub(crate) fn paths_beside(
     Ok(beside)
 }
 
-// Adds the paths that the items of the port in this row name, without subpackages. Without a row, or if the row is no port,
-// it adds none.
+/// Adds the paths that the items of the port in this row name, without subpackages. Without a row, or if the row is no port,
+/// it adds none.
 fn add_targets(alloc: Global, paths: &mut Vec<String>, row: Option<&Row>) -> Result<(), AllocError>
     ensures { OnOk result (AddsTexts (targets_in (row_says row.entry)) paths.old paths.new) }
 {
@@ -38,7 +38,7 @@ fn add_targets(alloc: Global, paths: &mut Vec<String>, row: Option<&Row>) -> Res
     }
 }
 
-// Adds the paths that the items of these dependencies name, without subpackages.
+/// Adds the paths that the items of these dependencies name, without subpackages.
 fn add_named(alloc: Global, paths: &mut Vec<String>, depends: &[Depend]) -> Result<(), AllocError>
     ensures { OnOk result (AddsTexts (filter_map target_by depends.now) paths.old paths.new) }
 {
@@ -48,7 +48,7 @@ fn add_named(alloc: Global, paths: &mut Vec<String>, depends: &[Depend]) -> Resu
     Ok(())
 }
 
-// Adds the path that the item of a dependency names, without a subpackage, if the item can be read.
+/// Adds the path that the item of a dependency names, without a subpackage, if the item can be read.
 fn add_target(alloc: Global, paths: &mut Vec<String>, depend: &Depend) -> Result<(), AllocError>
     ensures { OnOk result (AddsPath (target_by depend.now) paths.old paths.new) }
 {
@@ -58,7 +58,7 @@ fn add_target(alloc: Global, paths: &mut Vec<String>, depend: &Depend) -> Result
     Ok(())
 }
 
-// That path.
+/// That path.
 fn target_of(alloc: Global, depend: &Depend) -> Result<Option<String>, AllocError>
     ensures { IfOk result (λ path. option_map string_bytes path ≡ target_by depend.now) }
 {

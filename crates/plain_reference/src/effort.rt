@@ -48,7 +48,7 @@ impl Effort {
     }
 }
 
-// Whether there was a makefile to evaluate.
+/// Whether there was a makefile to evaluate.
 fn is_there(row: &Row) -> bool
     ensures { result ≡ is_there (row_seen row.now) }
 {

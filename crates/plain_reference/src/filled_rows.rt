@@ -40,7 +40,7 @@ pub(crate) fn fill<F: Files>(
     Ok(effort)
 }
 
-// Gives this path its row, if it has none yet.
+/// Gives this path its row, if it has none yet.
 fn fill_one<F: Files>(
     alloc: Global,
     files: &mut F,
@@ -65,7 +65,7 @@ fn fill_one<F: Files>(
     Ok(effort)
 }
 
-// A row that is stored nowhere. Nobody asks what it rests on.
+/// A row that is stored nowhere. Nobody asks what it rests on.
 fn unstored(alloc: Global, row: Row) -> KnownRow
     ensures { result.row ≡ row }
 {

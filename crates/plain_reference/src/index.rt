@@ -66,7 +66,7 @@ pub fn index_files<F: Listing>(
     })
 }
 
-// The directories, the listed paths, and the work that it took to learn what they lead to.
+/// The directories, the listed paths, and the work that it took to learn what they lead to.
 #[derive(Drop)]
 struct Listed {
     directories: Vec<String>,
@@ -74,7 +74,7 @@ struct Listed {
     effort: Effort,
 }
 
-// The listed paths. Each of them that has no row yet gets one.
+/// The listed paths. Each of them that has no row yet gets one.
 fn list<F: Listing>(
     alloc: Global,
     files: &mut F,

@@ -40,7 +40,7 @@ pub fn evaluate_path<F: Files>(
     }
 }
 
-// What a directory leads to, evaluated with these flavors or with none given.
+/// What a directory leads to, evaluated with these flavors or with none given.
 fn finding_in<F: Files>(
     alloc: Global,
     files: &mut F,
@@ -58,7 +58,7 @@ fn finding_in<F: Files>(
     }
 }
 
-// What a makefile describes.
+/// What a makefile describes.
 fn finding_at<F: Files>(
     alloc: Global,
     files: &mut F,

@@ -11,7 +11,7 @@ pub(crate) fn tell_turns(answer: &mut Answer, turns: &[Refreshed]) {
     }
 }
 
-// Adds what a turn told.
+/// Adds what a turn told.
 fn tell(answer: &mut Answer, turn: Refreshed) {
     match turn {
         Refreshed::More(spent) => tell_spent(answer, "more", spent),
@@ -20,7 +20,7 @@ fn tell(answer: &mut Answer, turn: Refreshed) {
     }
 }
 
-// Adds a word, and what was spent.
+/// Adds a word, and what was spent.
 fn tell_spent(answer: &mut Answer, what: &'static str, spent: Spent) {
     answer.word(what);
     answer.number(spent.units);

@@ -24,14 +24,14 @@ pub fn name_alike(old: &Row, new: &Row) -> bool
     }
 }
 
-// Whether a row names no path.
+/// Whether a row names no path.
 fn names_none(row: &Row) -> bool
     ensures { result ≡ true → (path : List ℕ) → NamesNone path (row_seen row.now) }
 {
     !matches!(row, Row::Port(_) | Row::Lists(_))
 }
 
-// Whether dependencies have the same items, in the same order.
+/// Whether dependencies have the same items, in the same order.
 fn have_same_items(old: &[Depend], new: &[Depend]) -> bool
     ensures { result ≡ true → dependency_items new.now ≡ dependency_items old.now }
 {

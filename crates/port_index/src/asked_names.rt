@@ -40,7 +40,7 @@ impl AskedNames {
         }
     }
 
-    // Notes a path with a name that has none yet. If memory runs out, nothing changes.
+    /// Notes a path with a name that has none yet. If memory runs out, nothing changes.
     fn add_first(&mut self, name: &str, path: &str) -> Result<(), AllocError>
         requires { get_by_text self.old.paths name.now ≡ None }
         ensures ok { OnOk result (AddsNote name.now path.now self.old self.new) }
@@ -64,7 +64,7 @@ impl AskedNames {
         }
     }
 
-    // The same, and whether no other is noted with that name.
+    /// The same, and whether no other is noted with that name.
     fn leaves_none(&mut self, name: &str, path: &str) -> bool
         ensures less { NotesOneLess name.now path.now (is_noted self.old) (is_noted self.new) }
         ensures none { result ≡ true → (other : List ℕ) → is_noted self.new name.now other ≡ false }
@@ -106,7 +106,7 @@ impl AskedNames {
     }
 }
 
-// Adds a copy of a text to others, unless it is one of them. If memory runs out, nothing changes.
+/// Adds a copy of a text to others, unless it is one of them. If memory runs out, nothing changes.
 fn insert_copy(alloc: Global, texts: &mut BTreeSet<String>, text: &str) -> Result<(), AllocError>
     ensures ok { OnOk result (NotesText text.now texts.old texts.new) }
     ensures err { OnErr result (texts.new ≡ texts.old) }

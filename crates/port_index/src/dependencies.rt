@@ -19,14 +19,14 @@ use port_deps::{Found, Item, Root, RootEdge, Wanted, items, resolve};
 use port_rules::PortRecord;
 use std::alloc::{AllocError, Global};
 
-// An item of the port at a path.
+/// An item of the port at a path.
 #[derive(Debug, Drop)]
 struct RootItem {
     root: String,
     item: Item,
 }
 
-// The items of the ports at these paths, in the order of the paths.
+/// The items of the ports at these paths, in the order of the paths.
 fn items_of_all(
     alloc: Global,
     paths: &[String],
@@ -42,7 +42,7 @@ fn items_of_all(
     Ok(found)
 }
 
-// Adds the items of the port in this row of a path. Without a row, or if the row is no port, it adds none.
+/// Adds the items of the port in this row of a path. Without a row, or if the row is no port, it adds none.
 fn add_items(
     alloc: Global,
     found: &mut Vec<RootItem>,
@@ -57,7 +57,7 @@ fn add_items(
     }
 }
 
-// Adds items of the port at a path.
+/// Adds items of the port at a path.
 fn put_items(
     alloc: Global,
     found: &mut Vec<RootItem>,
@@ -88,8 +88,8 @@ pub(crate) fn target_of(
     }
 }
 
-// The dependencies that items are, in their order. The status of each depends on the row of the path that
-// the item names.
+/// The dependencies that items are, in their order. The status of each depends on the row of the path that
+/// the item names.
 fn edges_of_all(
     alloc: Global,
     items: Vec<RootItem>,
@@ -104,7 +104,7 @@ fn edges_of_all(
     Ok(found)
 }
 
-// The dependency that an item is.
+/// The dependency that an item is.
 fn edge_of(alloc: Global, rooted: RootItem, rows: &MemoryRows) -> Result<RootEdge, AllocError>
     ensures { IfOk result (IsEdgeOf rooted rows.now) }
 {
@@ -116,7 +116,7 @@ fn edge_of(alloc: Global, rooted: RootItem, rows: &MemoryRows) -> Result<RootEdg
     Ok(RootEdge::new(root, resolve(item, found)))
 }
 
-// What an item finds if the path that it names has this row, or no row.
+/// What an item finds if the path that it names has this row, or no row.
 fn found_as(row: Option<&Row>) -> Found<'_>
     ensures { found_seen result ≡ needs.found_of (row_says row.entry) }
 {
@@ -175,7 +175,7 @@ pub(crate) fn root_among<'a>(
     }
 }
 
-// The root at a path with this row, if there is one.
+/// The root at a path with this row, if there is one.
 fn root_with<'a>(path: &'a str, row: Option<&'a Row>) -> Option<Root<'a>>
     ensures { result ≡ needs.root_with path.now (needs.root_state (row_says row.entry)) }
 {
@@ -202,7 +202,7 @@ pub(crate) fn roots_among<'a>(
     Ok(found)
 }
 
-// Adds the root at a path with this row, if there is one.
+/// Adds the root at a path with this row, if there is one.
 fn add_root<'a>(
     found: &mut Vec<Root<'a>>,
     path: &'a str,
@@ -240,7 +240,7 @@ pub(crate) fn ports_among<'a, F: Fn(&PortRecord) -> bool>(
     Ok(found)
 }
 
-// Adds the port at a path, if that is found.
+/// Adds the port at a path, if that is found.
 fn add_port<'a>(
     found: &mut Vec<Root<'a>>,
     finder: &mut PathFinder<'_>,
@@ -256,7 +256,7 @@ fn add_port<'a>(
     Ok(())
 }
 
-// The state of the root that a row is, if it is one: a port, or a fault.
+/// The state of the root that a row is, if it is one: a port, or a fault.
 fn state_of(row: Option<&Row>) -> Option<Result<&PortRecord, &Fault>>
     ensures { option_map state_lent result ≡ needs.root_state (row_says row.entry) }
 {

@@ -27,7 +27,7 @@ pub fn flavored_targets(alloc: Global, row: Option<&Row>) -> Result<Vec<String>,
     Ok(found)
 }
 
-// What the port in this row depends on. Without a row, or if the row is no port, that is nothing.
+/// What the port in this row depends on. Without a row, or if the row is no port, that is nothing.
 fn depends_of(row: Option<&Row>) -> &[Depend]
     ensures { filter_map the_dependencies.target_by result.now ≡ targets_in (row_says row.entry) }
 {
@@ -37,7 +37,7 @@ fn depends_of(row: Option<&Row>) -> &[Depend]
     }
 }
 
-// The path that the item of a dependency names, without a subpackage, if the item can be read and the path has a comma.
+/// The path that the item of a dependency names, without a subpackage, if the item can be read and the path has a comma.
 fn flavored_target(alloc: Global, depend: &Depend) -> Result<Option<String>, AllocError>
     ensures { IfOk result (GivesPath (flavored.flavored_target depend.now)) }
 {
@@ -47,7 +47,7 @@ fn flavored_target(alloc: Global, depend: &Depend) -> Result<Option<String>, All
     Ok(if_flavored(target_by(alloc, depend)?))
 }
 
-// The path that the item of a dependency names, without a subpackage, if the item can be read.
+/// The path that the item of a dependency names, without a subpackage, if the item can be read.
 fn target_by(alloc: Global, depend: &Depend) -> Result<Option<String>, AllocError>
     ensures { IfOk result (GivesPath (the_dependencies.target_by depend.now)) }
 {
@@ -55,7 +55,7 @@ fn target_by(alloc: Global, depend: &Depend) -> Result<Option<String>, AllocErro
     target_of(alloc, wanted.as_ref())
 }
 
-// This path, if it has a comma.
+/// This path, if it has a comma.
 fn if_flavored(path: Option<String>) -> Option<String>
     ensures { option_map string_bytes result ≡ flavored.if_flavored (option_map string_bytes path) }
 {

@@ -33,7 +33,7 @@ pub fn makefiles_are_there<F: Names>(
     Ok(true)
 }
 
-// Whether a name is that of a file that is there; of any name but a makefile's it is so too.
+/// Whether a name is that of a file that is there; of any name but a makefile's it is so too.
 fn is_there_if_makefile<F: Names>(
     alloc: Global,
     files: &mut F,
@@ -48,7 +48,7 @@ fn is_there_if_makefile<F: Names>(
     is_there(alloc, files, name)
 }
 
-// Whether a text is the name of a file that is there.
+/// Whether a text is the name of a file that is there.
 fn is_there<F: Names>(alloc: Global, files: &mut F, text: &str) -> Result<bool, FilesFault>
     ensures there { IfOk result (SaysIsThere text.now (F.view files.old).files) }
     ensures keeps { KeepsFiles (result_err result) (F.view files.old) (F.view files.new) }

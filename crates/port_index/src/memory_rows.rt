@@ -124,7 +124,7 @@ impl<'a> RowFinder<'a> {
         self.search(path)
     }
 
-    // The same for a path that needn't be the next one.
+    /// The same for a path that needn't be the next one.
     fn search(&mut self, path: &str) -> Option<&'a Row>
         ensures row { FindsRow path.now self.old result }
         ensures finder { (rows : MemoryRows) → IsFinderOf rows self.old → IsFinderOf rows self.new }

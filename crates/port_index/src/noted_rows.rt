@@ -83,7 +83,7 @@ impl NotedRows {
         Ok(paths)
     }
 
-    // Adds the paths of the rows for which the file of this name was asked.
+    /// Adds the paths of the rows for which the file of this name was asked.
     fn add_asking(
         &self,
         alloc: Global,
@@ -98,7 +98,7 @@ impl NotedRows {
         }
     }
 
-    // Adds those of these paths for whose rows the file of this name was asked.
+    /// Adds those of these paths for whose rows the file of this name was asked.
     fn add_those_asking(
         &self,
         alloc: Global,
@@ -116,7 +116,7 @@ impl NotedRows {
         Ok(())
     }
 
-    // Whether the file of this name was asked for the row of this path, if it has one.
+    /// Whether the file of this name was asked for the row of this path, if it has one.
     fn asks(&self, path: &str, name: &str) -> bool
         ensures { result ≡ asks_in (get_by_text self.now.rows path.now) name.now }
     {

@@ -71,14 +71,14 @@ pub fn finding_of(
     }
 }
 
-// The same fault once more.
+/// The same fault once more.
 fn copy_of(alloc: Global, fault: &Fault) -> Result<Fault, AllocError>
     ensures { IfOk result (λ copied. copied ≡ fault.now) }
 {
     Fault::new(alloc, fault.kind(), fault.name(), fault.line())
 }
 
-// What an evaluated makefile describes.
+/// What an evaluated makefile describes.
 fn finding_after(
     alloc: Global,
     evaluated: &Evaluated,
@@ -103,7 +103,7 @@ fn finding_after(
     }
 }
 
-// A port, or the fault of its record.
+/// A port, or the fault of its record.
 fn port_finding(
     alloc: Global,
     evaluated: &Evaluated,
@@ -124,7 +124,7 @@ fn port_finding(
     }
 }
 
-// A list of directories, or the fault of its SUBDIR.
+/// A list of directories, or the fault of its SUBDIR.
 fn list_finding(
     alloc: Global,
     evaluated: &Evaluated,

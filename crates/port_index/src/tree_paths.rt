@@ -33,7 +33,7 @@ pub fn directories<F: Listing>(alloc: Global, files: &mut F) -> Result<Vec<Strin
     Ok(found)
 }
 
-// The directories of which these names are makefiles.
+/// The directories of which these names are makefiles.
 fn directories_of(alloc: Global, names: &[String]) -> Result<Vec<String>, AllocError>
     ensures { IfOk result (GivesTexts (filter_map dirs.listable_directory (names_seen names.now))) }
 {
@@ -68,8 +68,8 @@ pub(crate) fn directory_of(alloc: Global, name: &str) -> Result<Option<String>, 
     Ok(None)
 }
 
-// The directory, below its tree, of which a name is the makefile: that of `/TREE/DIRECTORY/Makefile`, and `.`
-// for `/TREE/Makefile`.
+/// The directory, below its tree, of which a name is the makefile: that of `/TREE/DIRECTORY/Makefile`, and `.`
+/// for `/TREE/Makefile`.
 fn makefile_directory(name: &str) -> Option<&str>
     ensures { option_copied result ≡ dirs.makefile_directory name.now }
 {
@@ -80,7 +80,7 @@ fn makefile_directory(name: &str) -> Option<&str>
     }
 }
 
-// What follows the first slash of a text.
+/// What follows the first slash of a text.
 fn after_slash(text: &str) -> Option<&str>
     ensures { option_copied result ≡ dirs.after_slash text.now }
 {
@@ -120,7 +120,7 @@ pub fn is_found_in(paths: &[String], path: &str) -> bool
     }
 }
 
-// Adds more texts after these.
+/// Adds more texts after these.
 fn append(texts: &mut Vec<String>, more: Vec<String>) -> Result<(), AllocError>
     ensures { OnOk result (texts.new.items ≡ texts.old.items ++ more.items) }
 {
@@ -130,7 +130,7 @@ fn append(texts: &mut Vec<String>, more: Vec<String>) -> Result<(), AllocError>
     Ok(())
 }
 
-// The paths that these directories name.
+/// The paths that these directories name.
 fn named_by_all(
     alloc: Global,
     directories: &[String],
@@ -146,7 +146,7 @@ fn named_by_all(
     Ok(found)
 }
 
-// Adds the paths that a directory with this row names.
+/// Adds the paths that a directory with this row names.
 fn add_named(
     alloc: Global,
     found: &mut Vec<String>,
@@ -161,7 +161,7 @@ fn add_named(
     }
 }
 
-// Adds the paths that words of a directory name.
+/// Adds the paths that words of a directory name.
 fn add_words(
     alloc: Global,
     found: &mut Vec<String>,
@@ -176,7 +176,7 @@ fn add_words(
     Ok(())
 }
 
-// The path that a word of a directory names, if the word chooses flavors.
+/// The path that a word of a directory names, if the word chooses flavors.
 fn path_of_word(alloc: Global, directory: &str, word: &str) -> Result<Option<String>, AllocError>
     ensures { IfOk result (GivesPath (dirs.path_of_word directory.now word.now)) }
 {
@@ -190,7 +190,7 @@ fn path_of_word(alloc: Global, directory: &str, word: &str) -> Result<Option<Str
     }
 }
 
-// The text of a word below a directory. In the trees' own directory it is the word alone.
+/// The text of a word below a directory. In the trees' own directory it is the word alone.
 fn path_below(alloc: Global, directory: &str, word: &str) -> Result<String, AllocError>
     ensures { IfOk result (λ text. string_bytes text ≡ dirs.path_below directory.now word.now) }
 {

@@ -101,7 +101,7 @@ impl Depend {
     }
 }
 
-// The name of a package: that of the dependency before it, if it is the same.
+/// The name of a package: that of the dependency before it, if it is the same.
 fn shared_name(
     alloc: Global,
     before: Option<&Depend>,

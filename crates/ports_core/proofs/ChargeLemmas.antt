@@ -1,21 +1,17 @@
 -- What is told as spent in a turn.
-use Rattle.std.proofs.Common.{◌≡◌, ◌<◌, ◌∙◌, ℕ, Bool, true, false, List, [], ◌∷◌, length, get_or, Option, Some, None, sym, ap, subst, arith}
-use Rattle.std.specs.Prelude.{MatchBool, MatchOption, slice_get}
+use Rattle.std.proofs.Common.{◌≡◌, ◌<◌, ◌∙◌, ℕ, List, [], ◌∷◌, length, get_or, Option, Some, None, sym, ap, subst, arith}
+use Rattle.std.specs.Prelude.{MatchOption, slice_get}
 use Rattle.std.proofs.lemmas.Option.{slice_get-get_or}
 use Rattle.mk_paths.specs.World.{World, opening_world}
 use Rattle.port_index.specs.declared.spent.Spent.{Spent}
-use Rattle.port_index.specs.Spent.{no_spending, spent_together}
 use Rattle.ports_http.specs.Messages.{ReplyMessage}
 use Rattle.ports_core.specs.declared.event.Tell.{Tell}
 use Rattle.ports_core.specs.declared.event.Told.{Told}
 use Rattle.ports_core.specs.declared.queue.QueuedRequest.{QueuedRequest}
-use Rattle.ports_core.specs.Charges.{SpendsOnRequest, MayHaveHad, Charges, ChargesFor, FitsTurn, LeavesUnanswered, TurnSpends}
+use Rattle.ports_core.specs.Charges.{MayHaveHad, Charges, ChargesFor, FitsTurn, LeavesUnanswered, TurnSpends}
 use Rattle.ports_core.specs.Jobs.{TenantJob, had_by, spent_on, one_turn_more}
 use Rattle.ports_core.specs.Slices.{Slice, Queue, sliced}
-use Rattle.ports_core.specs.Tell.{in_turn, is_failure, spent_as_told, CountsNone}
-
-counts_none : (told : Told) → spent_as_told told ≡ no_spending → CountsNone told
-counts_none told none = (ap (λ (s : Spent). s.units) none, ap (λ (s : Spent). s.checks) none)
+use Rattle.ports_core.specs.Tell.{in_turn, spent_as_told, CountsNone}
 
 -- what is told fits a turn if it is what was spent in one, or nothing
 pub short_told : (told : Told) (spent : Spent) → spent_as_told told ≡ spent → FitsTurn spent → FitsTurn (spent_as_told told)
@@ -41,16 +37,6 @@ module _ (t : ℕ) (told : Told) (worlds : List World) (queues : List Queue) (jo
   turn_spends =
       subst (λ (s : Option Slice). TurnSpends s job told) (sym (slice_there t worlds queues queue rest first world there was waited))
       (subst (λ (r : Option Tell). MatchOption r (MayHaveHad world first.request (one_turn_more (had_by job) (spent_as_told told))) (λ (tell : Tell). Charges world first.request tell.reply (spent_on job) (spent_as_told told))) (sym tells) charged)
-
-  none_with_503 : (failed : Bool) → MatchBool failed (spent_as_told told ≡ no_spending) (SpendsOnRequest world first.request (spent_together (spent_on job) (spent_as_told told))) → failed ≡ true → CountsNone told
-  none_with_503 true none is = counts_none told none
-  none_with_503 false spends is = absurd cc
-
-  -- nothing is told as spent with 503
-  pub turn_counts : MatchOption told.reply (Unit {0}) (λ (tell : Tell). is_failure tell.reply.status ≡ true → CountsNone told)
-  turn_counts =
-      subst (λ (r : Option Tell). MatchOption r (Unit {0}) (λ (tell : Tell). is_failure tell.reply.status ≡ true → CountsNone told)) (sym tells)
-      (none_with_503 (is_failure reply.status) charged)
 
 -- nothing waits
 pub idle_spends : (t : ℕ) (told : Told) (worlds : List World) (queues : List Queue) (job : Option TenantJob) (queue : Queue) → slice_get queues t ≡ Some queue → queue ≡ [] → CountsNone told

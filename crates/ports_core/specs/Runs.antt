@@ -4,7 +4,7 @@ use Rattle.ports_core.specs.declared.event.Event.{Event}
 use Rattle.ports_core.specs.declared.event.Event.TheVariants.{Wrote}
 use Rattle.ports_core.specs.Effects.{Effect}
 use Rattle.ports_core.specs.Connections.{count_off}
-use Rattle.ports_core.specs.Tell.{spent_as_told, CountsTurns}
+use Rattle.ports_core.specs.Tell.{spent_as_told}
 use Rattle.ports_core.specs.Charges.{EventSpends, FitsTurn}
 use Rattle.ports_core.specs.State.{State, IsAllowed, pending_at}
 use Rattle.ports_core.specs.Steps.{Does}
@@ -20,7 +20,6 @@ pub record Happens (event : Event) (step : Effect) (old new : State) : Type 0 wh
   pub allowed : IsAllowed event old
   pub sent : step.sent ≡ sent_by event old
   pub does : Does event step.told old new
-  pub counts : CountsTurns event step.told
   pub spends : EventSpends event step.told old
   pub short : FitsTurn (spent_as_told step.told)
   pub jobs : ChangesJobs event step.told old new

@@ -1,9 +1,7 @@
 -- What an event tells.
-use Rattle.std.specs.Prelude.{◌≡◌, ℕ, Bool, true, ◌==◌, MatchOption, Some, None}
+use Rattle.std.specs.Prelude.{◌≡◌, ℕ, Bool, ◌==◌, Some, None}
 use Rattle.ports_http.specs.Messages.{ReplyMessage}
 use Rattle.port_index.specs.declared.spent.Spent.{Spent}
-use Rattle.ports_core.specs.declared.event.Event.{Event}
-use Rattle.ports_core.specs.declared.event.Event.TheVariants.{Open, Piece, End, Fault, Wrote, Turn}
 use Rattle.ports_core.specs.declared.event.Told.{Told}
 use Rattle.ports_core.specs.declared.event.Tell.{Tell}
 
@@ -26,13 +24,3 @@ spent_as_told told = record { units = told.units; checks = told.checks }
 -- no unit of work and no checked answer is counted
 abbrev pub CountsNone : Told → Type 0
 CountsNone told = (told.units ≡ 0) × (told.checks ≡ 0)
-
--- units and checks are counted in a turn alone, and in no turn that tells 503
-abbrev pub CountsTurns : Event → Told → Type 0
-CountsTurns (Turn t) told =
-    MatchOption told.reply (Unit {0}) (λ (tell : Tell). is_failure tell.reply.status ≡ true → CountsNone told)
-CountsTurns (Open c) told = CountsNone told
-CountsTurns (Piece c bytes) told = CountsNone told
-CountsTurns (End c) told = CountsNone told
-CountsTurns (Fault c) told = CountsNone told
-CountsTurns (Wrote c count) told = CountsNone told

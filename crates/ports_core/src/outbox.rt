@@ -15,7 +15,7 @@ const RESERVED: usize = 256;
 pub(crate) struct Outbox {
     fixed: Vec<u8>,
     own: Option<Vec<u8>>,
-    // how many of the bytes are written
+    /// how many of the bytes are written
     written: usize,
 }
 

@@ -105,7 +105,7 @@ impl<K: Tenants> Service<K> {
     ghost use Rattle.ports_core.specs.Sharing.{sizes_of};
     ghost use Rattle.ports_core.specs.State.{sharing_of, room_at, pending_at, waiting_at, IsAllowed};
     ghost use Rattle.ports_core.specs.Connections.{MayHappenTo};
-    ghost use Rattle.ports_core.specs.Tell.{spent_as_told, CountsNone, CountsTurns};
+    ghost use Rattle.ports_core.specs.Tell.{spent_as_told, CountsNone};
     ghost use Rattle.ports_core.specs.Charges.{EventSpends, FitsTurn, TurnSpends};
     ghost use Rattle.ports_core.specs.JobChanges.{ChangesJobs, KeepsJobs, TurnsJob};
     ghost use Rattle.ports_core.specs.SharingChanges.{ChangesSharing, KeepsSharing, UsesSharing};
@@ -233,7 +233,6 @@ impl<K: Tenants> Service<K> {
     pub fn step(&mut self, event: &Event) -> Told
         requires { IsAllowed event.now self.old }
         ensures does { Does event.now result self.old self.new }
-        ensures counts { CountsTurns event.now result }
         ensures spends { EventSpends event.now result self.old }
         ensures short { FitsTurn (spent_as_told result) }
         ensures jobs { ChangesJobs event.now result self.old self.new }
@@ -290,7 +289,6 @@ impl<K: Tenants> Service<K> {
     fn turn(&mut self, tenant: usize) -> Told
         requires { tenant < length (keys_of self.old) }
         ensures turns { Turns tenant result self.old self.new }
-        ensures counts { CountsTurns (Event.Turn tenant) result }
         ensures spends { TurnSpends (slice_of tenant self.old) (job_at tenant self.old) result }
         ensures short { FitsTurn (spent_as_told result) }
         ensures jobs { TurnsJob tenant result self.old self.new }

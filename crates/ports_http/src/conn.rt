@@ -24,9 +24,9 @@ const RESERVED: usize = 278_528;
 #[derive(Drop)]
 pub struct Conn {
     buffer: Vec<u8>,
-    // where the unread bytes begin
+    /// where the unread bytes begin
     start: usize,
-    // at least so many bytes of the body that comes first are missing
+    /// at least so many bytes of the body that comes first are missing
     missing: usize,
     over: bool,
 }

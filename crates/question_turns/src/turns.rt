@@ -50,7 +50,7 @@ impl<F: Listing + Drop, R: PathRows + Drop> KeptPorts<'_, F, R> {
         }
     }
 
-    // The first turn for a question about a port.
+    /// The first turn for a question about a port.
     fn begin(&mut self, alloc: Global, question: PortQuestion) -> Result<Turned, FilesFault>
         ensures turn { TurnsPort F.view result self.old question no_spending 0 }
         ensures later { IfOk result (TellsNoRecordYet (world_of_ports F.view self.old) question) }
@@ -63,7 +63,7 @@ impl<F: Listing + Drop, R: PathRows + Drop> KeptPorts<'_, F, R> {
         }
     }
 
-    // Goes on with the evaluation of a port's makefile, on which so much was spent before this turn.
+    /// Goes on with the evaluation of a port's makefile, on which so much was spent before this turn.
     fn evaluate_on(
         &mut self,
         alloc: Global,
@@ -83,8 +83,8 @@ impl<F: Listing + Drop, R: PathRows + Drop> KeptPorts<'_, F, R> {
         Ok(ask.end_turn(alloc, question, before)?)
     }
 
-    // Goes on with the refresh of the index. Once it is done, the question is answered. So much was spent before this
-    // turn.
+    /// Goes on with the refresh of the index. Once it is done, the question is answered. So much was spent before this
+    /// turn.
     fn refresh_on(
         &mut self,
         alloc: Global,
@@ -109,7 +109,7 @@ impl<F: Listing + Drop, R: PathRows + Drop> KeptPorts<'_, F, R> {
         }
     }
 
-    // The reply by the index, which is at hand. Dependencies that may be kept for the next question are.
+    /// The reply by the index, which is at hand. Dependencies that may be kept for the next question are.
     fn reply(&mut self, alloc: Global, question: &IndexQuestion) -> Result<Reply, FilesFault>
         requires { IsDone self.old.keeper.now }
         ensures reply { IfMade result (index_reply (world_of_ports F.view self.old) question.now) }
@@ -122,7 +122,7 @@ impl<F: Listing + Drop, R: PathRows + Drop> KeptPorts<'_, F, R> {
         Ok(question.reply(alloc, self.keeper.index())?)
     }
 
-    // Whether a question is about dependencies, and the rows of the index aren't too large to keep them.
+    /// Whether a question is about dependencies, and the rows of the index aren't too large to keep them.
     fn may_keep_edges(&self, question: &IndexQuestion) -> bool {
         match self.keeper.size_at_hand() {
             Some(size) => question.follows_edges() && size <= MOST_BYTES,
@@ -130,8 +130,8 @@ impl<F: Listing + Drop, R: PathRows + Drop> KeptPorts<'_, F, R> {
         }
     }
 
-    // Goes on with the refresh of the index, up to the next path on which something is spent, since a path without a
-    // makefile doesn't end a turn. It is `None` once the refresh is done.
+    /// Goes on with the refresh of the index, up to the next path on which something is spent, since a path without a
+    /// makefile doesn't end a turn. It is `None` once the refresh is done.
     fn refresh(&mut self, alloc: Global) -> Result<Option<Spent>, FilesFault>
         ensures refreshes { RefreshesPorts F.view R.entries result self.old self.new }
         ensures fewer { LeavesFewerTurns F.view R.entries result self.old self.new }
@@ -152,7 +152,7 @@ impl<F: Listing + Drop, R: PathRows + Drop> KeptPorts<'_, F, R> {
         }
     }
 
-    // Takes a turn of the refresh of the index, which is a walk through all its paths.
+    /// Takes a turn of the refresh of the index, which is a walk through all its paths.
     fn refresh_once(&mut self, alloc: Global) -> Result<Refreshed, FilesFault>
         ensures turn { TurnsRefresh F.view R.entries result self.old self.new }
         ensures leaves { LeavesPorts F.view R.entries self.old self.new }
@@ -164,8 +164,8 @@ impl<F: Listing + Drop, R: PathRows + Drop> KeptPorts<'_, F, R> {
 }
 
 impl PortAsk {
-    // Ends a turn that went on with the evaluation, before which so much was spent. If the turn may still act, the
-    // evaluation is at its end, and the reply is made of it. A turn ends once a record is made.
+    /// Ends a turn that went on with the evaluation, before which so much was spent. If the turn may still act, the
+    /// evaluation is at its end, and the reply is made of it. A turn ends once a record is made.
     fn end_turn(
         self,
         alloc: Global,
@@ -205,14 +205,14 @@ impl PortAsk {
     }
 }
 
-// Whether a question takes a record from an evaluation. A turn ends once a record is made.
+/// Whether a question takes a record from an evaluation. A turn ends once a record is made.
 fn takes_record(question: &PortQuestion) -> bool
     ensures { result ≡ is_of_record question.now }
 {
     matches!(question, PortQuestion::Record(_))
 }
 
-// Whether nothing was spent.
+/// Whether nothing was spent.
 fn is_nothing(spent: Spent) -> bool
     ensures nothing { result ≡ true → spent ≡ no_spending }
     ensures some { result ≡ false → 1 ≤ total_of spent }

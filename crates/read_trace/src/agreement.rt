@@ -1,4 +1,4 @@
-// Whether files answer as they did before.
+//! Whether files answer as they did before.
 ghost use Rattle.std.specs.Prelude.{◌≡◌, [], IfErr, OnErr};
 ghost use Rattle.std.specs.Option.{option_copied};
 ghost use Rattle.mk_files.specs.AfterQuestions.{AfterFailedQuestion};
@@ -31,7 +31,7 @@ pub fn agrees<F: Files>(trace: &Trace, files: &mut F) -> Result<(bool, u64), Fil
     Ok((true, checked))
 }
 
-// Whether files answer a question as it says.
+/// Whether files answer a question as it says.
 fn has_answer<F: Files>(question: &Question, files: &mut F) -> Result<bool, FilesFault>
     ensures same { TellsIfReplied result (F.view files.old).files question.now }
     ensures asks { AsksOneAgain result (F.view files.old) (F.view files.new) question.now }
@@ -47,7 +47,7 @@ fn has_answer<F: Files>(question: &Question, files: &mut F) -> Result<bool, File
     }
 }
 
-// Whether two contents have the same bytes, or both are of no file.
+/// Whether two contents have the same bytes, or both are of no file.
 fn is_same(one: Option<&Content>, other: Option<&Content>) -> bool
     ensures { result ≡ same_content (option_copied one.entry) (option_copied other.entry) }
 {

@@ -1,4 +1,4 @@
-// An evaluation whose questions were written down.
+//! An evaluation whose questions were written down.
 ghost use Rattle.std.specs.Prelude.{◌≡◌};
 ghost use Rattle.mk_eval.specs.Agreement.{cost_of};
 

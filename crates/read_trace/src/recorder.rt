@@ -1,4 +1,4 @@
-// Files that write down what they are asked.
+//! Files that write down what they are asked.
 ghost use Rattle.std.specs.Prelude.{◌≡◌, Some, [], IfErr, OnErr, true};
 ghost use Rattle.mk_paths.specs.FilesView.{Presence, Contents, Fails};
 ghost use Rattle.read_trace.specs.Agreement.{IsAnswered, MakesQuestion, has_reply};
@@ -65,7 +65,7 @@ impl<F: Files + Drop> Recorder<F> {
         self.trace = trace;
     }
 
-    // Writes down whether a file was there. If memory runs out, nothing changes.
+    /// Writes down whether a file was there. If memory runs out, nothing changes.
     fn note_presence(&mut self, name: &Name, there: bool) -> Result<(), AllocError>
         requires { has_reply (view_of F.view self.old).files (name.now, Presence there) ≡ true }
         ensures ok { NotesOne F.view result self.old self.new (name.now, Presence there) }
@@ -76,8 +76,8 @@ impl<F: Files + Drop> Recorder<F> {
         self.note(Question::new(name, Reply::Presence(there)))
     }
 
-    // Writes down the content of a file, which the trace then shares, or that the file wasn't there. If
-    // memory runs out, nothing changes.
+    /// Writes down the content of a file, which the trace then shares, or that the file wasn't there. If
+    /// memory runs out, nothing changes.
     fn note_content(&mut self, name: &Name, content: Option<&Content>) -> Result<(), AllocError>
         requires { HasContent (view_of F.view self.old).files name.now content }
         ensures ok { NotesContent F.view result self.old self.new name.now content.entry }
@@ -88,7 +88,7 @@ impl<F: Files + Drop> Recorder<F> {
         self.note(question)
     }
 
-    // Writes down a question that the files answer so. If memory runs out, nothing changes.
+    /// Writes down a question that the files answer so. If memory runs out, nothing changes.
     fn note(&mut self, question: Question) -> Result<(), AllocError>
         requires { has_reply (view_of F.view self.old).files question ≡ true }
         ensures ok { NotesOne F.view result self.old self.new question }
@@ -98,7 +98,7 @@ impl<F: Files + Drop> Recorder<F> {
         self.trace.add(question)
     }
 
-    // Counts one more question that failed, with this fault.
+    /// Counts one more question that failed, with this fault.
     fn failed(&mut self, fault: FilesFault) -> FilesFault
         ensures counted { Fails (view_of F.view self.old) (view_of F.view self.new) }
         ensures fault { result ≡ fault }
@@ -109,7 +109,7 @@ impl<F: Files + Drop> Recorder<F> {
     }
 }
 
-// The question about the content of a file, which it shares, or about a file that wasn't there.
+/// The question about the content of a file, which it shares, or about a file that wasn't there.
 fn content_question(
     alloc: Global,
     name: &Name,

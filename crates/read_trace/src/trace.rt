@@ -1,4 +1,4 @@
-// Questions about files with their answers.
+//! Questions about files with their answers.
 ghost use Rattle.std.specs.Prelude.{◌≡◌, [], ◌∷◌, ◌++◌, OnOk, OnErr};
 ghost use Rattle.read_trace.specs.Traces.{reply_of};
 

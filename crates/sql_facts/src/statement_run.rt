@@ -1,4 +1,4 @@
-// Statements in a transaction, and alone.
+//! Statements in a transaction, and alone.
 ghost use Rattle.std.specs.Prelude.{IsTrue, OnOk, OnErr};
 ghost use Rattle.sqlite.specs.State.{ExecutesInside};
 ghost use Rattle.sqlite.specs.Values.{bound};

@@ -62,7 +62,7 @@ impl Tenant {
         }
     }
 
-    // The first turn of a request.
+    /// The first turn of a request.
     fn begin(
         &mut self,
         alloc: Global,
@@ -102,7 +102,7 @@ impl Tenant {
         }
     }
 
-    // A turn for a question that takes work. It is the tenant's job once more if it isn't answered.
+    /// A turn for a question that takes work. It is the tenant's job once more if it isn't answered.
     fn work_on(
         &mut self,
         alloc: Global,
@@ -136,8 +136,8 @@ impl Tenant {
         }
     }
 
-    // A turn for a question over the tenant's files, and over the index that its keeper has. Nothing is changed, but rows
-    // of the index may be renewed.
+    /// A turn for a question over the tenant's files, and over the index that its keeper has. Nothing is changed, but rows
+    /// of the index may be renewed.
     fn turn_over(
         &mut self,
         alloc: Global,
@@ -171,9 +171,9 @@ impl Tenant {
         }
     }
 
-    // Carries out what a request changes, and gives its reply with its bytes. If a file isn't stored since the
-    // tenant would have more than it may, the reply is 409. It fails if the store fails, or if memory runs out; then
-    // nothing has changed.
+    /// Carries out what a request changes, and gives its reply with its bytes. If a file isn't stored since the
+    /// tenant would have more than it may, the reply is 409. It fails if the store fails, or if memory runs out; then
+    /// nothing has changed.
     fn settle(
         &mut self,
         alloc: Global,
@@ -203,10 +203,10 @@ impl Tenant {
         }
     }
 
-    // Carries out a change of the tenant's world. The keeper is told first what is about to change, so that it is
-    // right before the change and after it. The error is `Full` if the tenant would have more than it may, and another
-    // one if a store fails or memory runs out. If it fails, the world has not changed. If the error is none or `Full`,
-    // exactly those rows of the index are stale now that asked for the file's name, or all if the settings change.
+    /// Carries out a change of the tenant's world. The keeper is told first what is about to change, so that it is
+    /// right before the change and after it. The error is `Full` if the tenant would have more than it may, and another
+    /// one if a store fails or memory runs out. If it fails, the world has not changed. If the error is none or `Full`,
+    /// exactly those rows of the index are stale now that asked for the file's name, or all if the settings change.
     fn carry_out(&mut self, alloc: Global, change: Change) -> Result<(), PutFault>
         requires right { IsRightTenant self.old }
         requires idle { IsIdle (world_of self.old) self.old }
@@ -248,7 +248,7 @@ impl Tenant {
     }
 }
 
-// What a turn came to that gave this answer and spent nothing.
+/// What a turn came to that gave this answer and spent nothing.
 fn free(answer: Answer) -> Worked
     ensures { result ≡ record { reply = Some answer; spent = no_spending } }
 {
@@ -258,7 +258,7 @@ fn free(answer: Answer) -> Worked
     }
 }
 
-// A reply with its bytes. It fails only if memory runs out.
+/// A reply with its bytes. It fails only if memory runs out.
 fn answer_with_bytes(alloc: Global, reply: Reply, close: bool) -> Result<Answer, AllocError>
     ensures reply { IfOk result (λ answer. answer.reply ≡ reply) }
     ensures bytes { IfOk result (λ answer. AreBytesOf answer.reply close answer.bytes) }

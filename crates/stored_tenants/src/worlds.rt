@@ -108,7 +108,7 @@ impl Tenants for StoredTenants {
 }
 
 impl StoredTenants {
-    // A turn of work for a request over a tenant's world, before the indexes in memory are bounded.
+    /// A turn of work for a request over a tenant's world, before the indexes in memory are bounded.
     fn turn(&mut self, alloc: Global, tenant: usize, request: &Request, close: bool) -> Worked
         requires there { tenant < length self.old.0 }
         requires for_request { IsForRequest request.now (job_in tenant self.old.1) }
@@ -141,7 +141,7 @@ impl StoredTenants {
         }
     }
 
-    // Puts an index away after this tenant had a turn, if one has to be.
+    /// Puts an index away after this tenant had a turn, if one has to be.
     fn bound_indexes(&mut self, alloc: Global, tenant: usize)
         ensures { self.new ≡ self.old }
     {
@@ -150,8 +150,8 @@ impl StoredTenants {
         }
     }
 
-    // The tenant whose index has to be put away after this tenant had a turn: its own, if it has too many bytes, or
-    // that of the one whose index was at hand before those of 8 others.
+    /// The tenant whose index has to be put away after this tenant had a turn: its own, if it has too many bytes, or
+    /// that of the one whose index was at hand before those of 8 others.
     fn to_be_put_away(&mut self, tenant: usize) -> Option<usize>
         ensures { self.new ≡ self.old }
     {
@@ -166,7 +166,7 @@ impl StoredTenants {
         }
     }
 
-    // Puts a tenant's index away.
+    /// Puts a tenant's index away.
     fn put_away(&mut self, alloc: Global, tenant: usize)
         ensures { self.new ≡ self.old }
     {

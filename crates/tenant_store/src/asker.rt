@@ -1,4 +1,4 @@
-// Work over the files that leaves the store as it was.
+//! Work over the files that leaves the store as it was.
 ghost use Rattle.std.specs.Prelude.{◌≡◌};
 ghost use Rattle.tenant_store.specs.TenantWorld.{view_of, store_reference, held_by, opened_files};
 
@@ -37,7 +37,7 @@ impl TenantStore {
     }
 }
 
-// The same over files that were lent. They come back over the same store, and the store is as it was.
+/// The same over files that were lent. They come back over the same store, and the store is as it was.
 fn ask_over<'s, L: Lent, A: Asker>(files: TenantFiles<'s>, asker: &mut A) -> TenantFiles<'s>
     requires name { store_reference files ≡ L.name }
     requires held { held_by files ≡ L.held }

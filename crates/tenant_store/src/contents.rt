@@ -1,4 +1,4 @@
-// The contents of files that were read last, which are kept in memory.
+//! The contents of files that were read last, which are kept in memory.
 ghost use Rattle.tenant_store.specs.Contents.{FindsContent, KeepsContents, TakesContent};
 
 use lru::LruCache;

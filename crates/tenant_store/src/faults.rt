@@ -1,4 +1,4 @@
-// Why a call of the store is refused.
+//! Why a call of the store is refused.
 
 use mk_paths::FilesFault;
 use refusals::{OutOfMemory, StoreRefusal};

@@ -1,4 +1,4 @@
-// The files of a store that is known not to change with any question.
+//! The files of a store that is known not to change with any question.
 ghost use Rattle.std.specs.Prelude.{◌≡◌};
 ghost use Rattle.std.specs.Coded.{Coded-set};
 ghost use Rattle.mk_paths.specs.World.{world_code};

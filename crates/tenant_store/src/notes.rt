@@ -1,4 +1,4 @@
-// What is noted in memory of the files.
+//! What is noted in memory of the files.
 ghost use Rattle.std.specs.Prelude.{◌≡◌, ◌+◌, ◌≤◌, None, Some, IsSome, OnOk, OnErr};
 ghost use Rattle.std.specs.BTreeMap.{get_by_text};
 ghost use Rattle.tenant_store.specs.Lengths.{NotesLength, ListsNotedFiles};

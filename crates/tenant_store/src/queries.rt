@@ -1,4 +1,4 @@
-// The statements that read.
+//! The statements that read.
 ghost use Rattle.std.specs.Prelude.{◌≡◌, IfOk};
 ghost use Rattle.sql_facts.specs.States.{state_of};
 ghost use Rattle.tenant_store.specs.Tables.{IsStoreAtRest, ShowSettings, AreSettings};

@@ -1,4 +1,4 @@
-// The calls of the store that change a setting.
+//! The calls of the store that change a setting.
 ghost use Rattle.std.specs.Prelude.{◌≡◌, IfOk, OnOk, OnErr, string_bytes};
 ghost use Rattle.mk_paths.specs.SearchPath.{IsSearchPath, trees_of};
 ghost use Rattle.mk_paths.specs.World.{with_search_path, with_profile};
@@ -47,7 +47,7 @@ pub(crate) fn set_profile(conn: &mut Connection<MemStore>, profile: Profile) -> 
     update_settings(conn, &next)
 }
 
-// The trees of a search path, with colons between them.
+/// The trees of a search path, with colons between them.
 fn path_text(alloc: Global, path: &SearchPath) -> Result<String, AllocError>
     ensures text { IfOk result (λ text. trees_of (string_bytes text) ≡ path.now) }
     ensures is_path { IsSearchPath path.now }
@@ -56,7 +56,7 @@ fn path_text(alloc: Global, path: &SearchPath) -> Result<String, AllocError>
     joined(alloc, trees[0].as_str(), &trees[1..])
 }
 
-// The first text, and each other text after a colon.
+/// The first text, and each other text after a colon.
 fn joined(alloc: Global, first: &str, more: &[String]) -> Result<String, AllocError>
     ensures { JoinsTrees result first.now more.now }
 {

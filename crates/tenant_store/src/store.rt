@@ -1,4 +1,4 @@
-// The store as its callers see it.
+//! The store as its callers see it.
 ghost use Rattle.std.specs.Prelude.{◌≡◌, map, string_bytes, IfOk, None, OnOk, OnErr};
 ghost use Rattle.std.specs.FinMap.{get, keys, contains_key};
 ghost use Rattle.mk_paths.specs.SearchPath.{IsSearchPath, trees_of};
@@ -33,11 +33,11 @@ use sql_facts::Sqlite;
 pub struct TenantStore {
     conn: Connection<MemStore>,
     alloc: Global,
-    // The lengths of the files in bytes, by their names.
+    /// The lengths of the files in bytes, by their names.
     lengths: BTreeMap<String, usize>,
-    // How many files there are, and the sum of their lengths.
+    /// How many files there are, and the sum of their lengths.
     usage: Usage,
-    // The contents of the files that were read last, by their names. None is kept over a write.
+    /// The contents of the files that were read last, by their names. None is kept over a write.
     contents: LruCache<String, Content>,
 }
 
@@ -234,7 +234,7 @@ impl TenantStore {
     }
 }
 
-// The search path of a text that the store holds.
+/// The search path of a text that the store holds.
 fn path_from(alloc: Global, text: &str) -> Result<SearchPath, AllocError>
     requires { IsSearchPath (trees_of text.now) }
     ensures { IfOk result (λ path. path ≡ trees_of text.now) }
@@ -246,7 +246,7 @@ fn path_from(alloc: Global, text: &str) -> Result<SearchPath, AllocError>
     }
 }
 
-// The content of a file as the database has it, if it is there, to be shared.
+/// The content of a file as the database has it, if it is there, to be shared.
 fn stored_content(
     conn: &mut Connection<MemStore>,
     alloc: Global,
@@ -264,7 +264,7 @@ fn stored_content(
     }
 }
 
-// The settings.
+/// The settings.
 fn settings_of(conn: &mut Connection<MemStore>, alloc: Global) -> Result<Settings, FilesFault>
     requires { IsStoreAtRest (state_of conn.old) }
     ensures path { IfOk result (λ found. found.path ≡ search_path_of (conn_world conn.old)) }

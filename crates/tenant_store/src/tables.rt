@@ -1,4 +1,4 @@
-// The database as it begins.
+//! The database as it begins.
 ghost use Rattle.std.specs.Prelude.{◌≡◌, [], IfOk, OnOk, false};
 ghost use Rattle.mk_paths.specs.World.{opening_world};
 ghost use Rattle.tenant_store.specs.Tables.{HoldsWorld, IsBare, file_schema};
@@ -37,7 +37,7 @@ fn create_settings(conn: &mut Connection<MemStore>) -> Result<(), Error>
     Ok(())
 }
 
-// The standard path and the first profile.
+/// The standard path and the first profile.
 fn insert_settings(conn: &mut Connection<MemStore>) -> Result<(), Error>
     requires settled { IsSettled (state_of conn.old) }
     requires bare { IsBare (state_of conn.old).now }

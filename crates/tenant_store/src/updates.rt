@@ -1,4 +1,4 @@
-// The statements that write. Each is a transaction of its own: after an error nothing has changed.
+//! The statements that write. Each is a transaction of its own: after an error nothing has changed.
 ghost use Rattle.std.specs.Prelude.{◌≡◌, OnOk, OnErr, IsTrue, None, string_bytes};
 ghost use Rattle.std.specs.FinMap.{get, contains_key};
 ghost use Rattle.mk_paths.specs.SearchPath.{IsSearchPath, trees_of};

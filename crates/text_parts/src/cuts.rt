@@ -1,4 +1,4 @@
-// A text cut in two.
+//! A text cut in two.
 ghost use Rattle.std.specs.Prelude.{◌<◌, IfSome};
 ghost use Rattle.text_parts.specs.Cuts.{IsMarkAt, CutsWhere, FindsMark};
 
@@ -14,7 +14,7 @@ pub fn cut_where<F: Fn(&[u8]) -> bool>(text: &str, mark: char, passes: F) -> Opt
     Some((&text[..at], &text[at + 1..]))
 }
 
-// The place of the first such mark.
+/// The place of the first such mark.
 fn mark_where<F: Fn(&[u8]) -> bool>(text: &[u8], mark: u8, passes: F) -> Option<usize>
     requires { F.IsAlwaysCallable passes }
     ensures at { IfSome result (λ at. IsMarkAt mark text.now at) }

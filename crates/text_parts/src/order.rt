@@ -1,4 +1,4 @@
-// Texts put in order.
+//! Texts put in order.
 ghost use Rattle.std.specs.Prelude.{◌≡◌, map};
 ghost use Rattle.std.specs.String.{string_bytes};
 ghost use Rattle.text_parts.specs.Order.{in_order};

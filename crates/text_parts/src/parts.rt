@@ -1,4 +1,4 @@
-// The parts of a text.
+//! The parts of a text.
 ghost use Rattle.std.specs.Prelude.{◌≡◌, ◌==◌, ◌<◌, IfOk, map};
 ghost use Rattle.std.specs.String.{string_bytes};
 ghost use Rattle.text_parts.specs.Cuts.{now_all, CutsAtEach};

@@ -32,7 +32,7 @@ loop-index-preserved g c =
     let step : Effect = record { told = c.step-told.result; sent = c.in_ok-sent.sent.items } in
     run_next (new_state (key_texts c.args.config.keys.items) (sizes_of c.args.config)) c.loop-index.service c.step-told.new.self c.args.events.now c.loop-index.index c.index-events-index.result c.loop-index.steps.items c.push.new.self.items step
     c.loop-index-test.true c.index-events-index.is c.loop-index.invariant
-    (record { allowed = c.allows.ensures.0 c.if-not-allows.false; sent = c.in_ok-sent.ensures; does = c.step-told.ensures.does; counts = c.step-told.ensures.counts; spends = c.step-told.ensures.spends; short = c.step-told.ensures.short; jobs = c.step-told.ensures.jobs })
+    (record { allowed = c.allows.ensures.0 c.if-not-allows.false; sent = c.in_ok-sent.ensures; does = c.step-told.ensures.does; spends = c.step-told.ensures.spends; short = c.step-told.ensures.short; jobs = c.step-told.ensures.jobs })
     c.in_ok-push.ensures.items
 
 pub returns-clause-run : goal.returns-clause-run

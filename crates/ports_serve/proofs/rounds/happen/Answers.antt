@@ -10,7 +10,6 @@ returns g c =
       allowed = c.requires;
       sent = refl;
       does = c.step-told.ensures.does;
-      counts = c.step-told.ensures.counts;
       spends = c.step-told.ensures.spends;
       short = c.step-told.ensures.short;
       jobs = c.step-told.ensures.jobs;

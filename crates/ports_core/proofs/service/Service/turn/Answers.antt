@@ -6,7 +6,7 @@ use Rattle.std.specs.Prelude.{option_and_then}
 use Rattle.ports_core.specs.Keys.{key_texts}
 use Rattle.ports_core.specs.Connections.{kept}
 use Rattle.ports_core.specs.Jobs.{job_in}
-use Rattle.ports_core.proofs.ChargeLemmas.{turn_counts, turn_spends, idle_spends, pending_spends, short_told, short_none}
+use Rattle.ports_core.proofs.ChargeLemmas.{turn_spends, idle_spends, pending_spends, short_told, short_none}
 use Rattle.ports_core.proofs.JobLemmas.{none_waits, first_rest, taken_out, for_request, idle_job, turn_job, pending_job, answered_job, pending_first, answered_first}
 use Rattle.ports_core.proofs.Lists.{on_none, on_some}
 use Rattle.ports_core.proofs.PlaceLemmas.{answered_fresh, answered_seats, same_seats}
@@ -132,16 +132,6 @@ invariant_of-self-2 g c =
       jobs = c.work-reply.ensures.job_count ∙ c.self.invariant.jobs;
       first = answered_first c.args.tenant c.self.inside.queues.items c.next-answered.new.self (g.K.Tenants.jobs c.self.inside.worlds) (g.K.Tenants.jobs c.work-reply.new.self) job c.self.invariant.first;
     }
-
-pub returns-clause-counts : goal.returns-clause-counts
-returns-clause-counts g c =
-    let within : c.args.tenant < length c.self.inside.queues.items = within_keys c.args.tenant c.args.self.now c.self.inside.keys.items (g.K.Tenants.worlds c.self.inside.worlds) c.self.inside.queues.items c.self.inside.connections.entries c.self.inside.next (g.K.Tenants.jobs c.self.inside.worlds) (g.K.Tenants.sharing c.self.inside.worlds) c.self.inside.queues.items c.self.view_is c.self.invariant.queues c.requires in
-    let was = slice_get_read c.self.inside.queues.items (length c.self.inside.queues.items) c.args.tenant c.index_mut-queue.result.now refl within c.index_mut-queue.ensures.value in
-    let first = sym (ap option_copied c.in-Some.is) ∙ c.first.ensures in
-    let first_is = taken_out c.index_mut-queue.result.now c.next-answered.new.self c.in-Some.first.now c.next-answered.result first c.next-answered.ensures.some c.next-answered.ensures.none in
-    let answers = on_some _ c.work-reply.result.reply c.in-Some-reply.field-0 c.in-Some-reply.is c.work-reply.ensures.answers in
-    turn_counts c.args.tenant c.answer.result (g.K.Tenants.worlds c.self.inside.worlds) c.self.inside.queues.items (job_in c.args.tenant (g.K.Tenants.jobs c.self.inside.worlds)) c.index_mut-queue.result.now c.next-answered.new.self c.in-Some.first.now c.in-Some-reply.field-0.reply c.work-reply.result.spent answers.world
-    answers.was was first_is (on_some _ c.work-reply.result.reply c.in-Some-reply.field-0 c.in-Some-reply.is c.work-reply.ensures.charges) c.answer.ensures.reply c.answer.ensures.spent
 
 pub returns-clause-spends : goal.returns-clause-spends
 returns-clause-spends g c =
