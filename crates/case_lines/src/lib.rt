@@ -5,15 +5,15 @@
 mod answer;
 mod bench;
 mod cases;
+mod failing_reader;
+mod failing_writer;
 mod line;
-mod reader;
 mod refused;
-mod writer;
 
 pub use answer::{Answer, Trouble};
 pub use bench::{Bench, Ran};
 pub use cases::Cases;
+pub use failing_reader::FailingReader;
+pub use failing_writer::FailingWriter;
 pub use line::{as_number, as_text, one_text};
-pub use reader::FailingReader;
 pub use refused::{no_memory, no_statement};
-pub use writer::FailingWriter;

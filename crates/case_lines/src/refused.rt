@@ -2,9 +2,9 @@
 use crate::answer::Trouble;
 use mk_paths::FilesFault;
 use refusals::OutOfMemory;
+use sql_facts::Sqlite;
 use sqlite::{Connection, Error};
 use std::alloc::Global;
-use sql_facts::Sqlite;
 
 /// A refusal of memory, by a growth that can't be had. It is `NoCase` if it can be had.
 pub fn no_memory(alloc: Global) -> Result<OutOfMemory, Trouble> {

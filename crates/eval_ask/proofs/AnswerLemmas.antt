@@ -22,7 +22,7 @@ use Rattle.eval_cache.specs.Right.{evaluation_of}
 use Rattle.port_index.specs.Pairs.{Pair}
 use Rattle.port_index.specs.Spent.{SpendsOnOne}
 use Rattle.read_trace.specs.declared.evaluation.Evaluation.{Evaluation}
-use Rattle.port_index.specs.declared.spent.Spent.{Spent}
+use Rattle.turn_amounts.specs.declared.spent.Spent.{Spent}
 use Rattle.eval_ask.specs.Ask.{key_in, pair_for, spent_in, spent_less_saved, spent_so_far, IsAskUnderWay, HasComeTo, IsAnswerTo, IsAskIn}
 use Rattle.eval_ask.specs.Ask.{EvaluatesInTime, IsLastThing, IsShort, TurnsAsk, TellsWhole}
 use Rattle.eval_ask.specs.declared.ask.Ask.{Ask}

@@ -25,8 +25,9 @@ use Rattle.eval_cache.specs.Keys.{Key, key_of}
 use Rattle.eval_cache.specs.Look.{agreeing}
 use Rattle.eval_cache.specs.Right.{evaluation_of, IsRight}
 use Rattle.port_index.specs.Pairs.{Pair}
-use Rattle.port_index.specs.Spent.{SpendsOnOne, evaluation_cost, no_spending}
-use Rattle.port_index.specs.declared.spent.Spent.{Spent}
+use Rattle.turn_amounts.specs.Spent.{IsUpFrom, no_spending, total_of}
+use Rattle.port_index.specs.Spent.{SpendsOnOne, evaluation_cost}
+use Rattle.turn_amounts.specs.declared.spent.Spent.{Spent}
 use Rattle.eval_ask.specs.declared.ask.Ask.{Ask}
 use Rattle.eval_ask.specs.declared.ask.Looked.{Looked}
 use Rattle.eval_ask.specs.declared.ask.Asked.{Asked}
@@ -117,10 +118,6 @@ abbrev pub spent_in : AskTurned → Spent
 spent_in (More ask) = spent_so_far ask
 spent_in (Done asked) = record { units = asked.units; checks = asked.checks }
 
--- units and checks together
-abbrev pub total_of : Spent → ℕ
-total_of spent = spent.units + spent.checks
-
 -- An evaluation of which no more was done in a turn than a look at what is kept: so much was spent before.
 pub record HasLooked (before : Spent) (came : AskTurned) : Type 0 where
   pub units : (spent_in came).units ≡ before.units
@@ -129,15 +126,6 @@ pub record HasLooked (before : Spent) (came : AskTurned) : Type 0 where
 -- A turn that is given some units spends at most as many more as one evaluation, record or value may cost.
 abbrev pub IsShort : ℕ → Spent → Spent → Type 0
 IsShort units before after = total_of after ≤ total_of before + (units + UNITS)
-
--- nothing of what was spent is taken back
-pub record IsUpFrom (before after : Spent) : Type 0 where
-  pub units : before.units ≤ after.units
-  pub checks : before.checks ≤ after.checks
-
--- so much was spent before, and this in a turn
-abbrev pub spent_in_all : Spent → Spent → Spent
-spent_in_all before more = record { units = before.units + more.units; checks = before.checks + more.checks }
 
 -- and this much more was spent, units and checks together
 abbrev pub IsUpBy : ℕ → Spent → Spent → Type 0

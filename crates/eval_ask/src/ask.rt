@@ -15,10 +15,10 @@ use eval_cache::{EvalCache, EvalKey, Look};
 use mk_files::Files;
 use mk_paths::{FilesFault, Name, Settings};
 use mk_step::{Machine, Turned};
-use port_index::Spent;
 use read_trace::{Evaluation, Recorder, Trace, agrees_where_answered, same_where_agreed};
 use std::alloc::{AllocError, Global};
 use std::rc::Rc;
+use turn_amounts::Spent;
 
 /// An evaluation that was asked for, and the work that this took.
 #[derive(Drop)]

@@ -4,8 +4,6 @@
 
 mod ask;
 mod laws;
-mod spent;
 
 pub use ask::{Ask, AskTurned, Asked};
 pub use laws::asking_spends;
-pub use spent::{left_of, spent_since};

@@ -15,7 +15,7 @@ use Rattle.mk_paths.specs.FilesView.{Question, Reply, Presence, Contents, IsRepl
 use Rattle.mk_paths.specs.declared.search_path.Settings.{Settings}
 use Rattle.mk_eval.specs.Agreement.{Agrees}
 use Rattle.port_index.specs.Efforts.{decided, has_makefile, is_there}
-use Rattle.port_index.specs.declared.spent.Spent.{Spent}
+use Rattle.turn_amounts.specs.declared.spent.Spent.{Spent}
 use Rattle.port_index.specs.FilledRows.{is_one_of, Fills}
 use Rattle.port_index.specs.Index.{needed_among, needed_paths}
 use Rattle.port_index.specs.Known.{IsIndexOf}
@@ -35,7 +35,7 @@ use Rattle.index_keep.specs.declared.keeper.Progress.TheVariants.{Changed, Walki
 use Rattle.index_keep.specs.Shown.{ShownRow, ShownRows, shown, show_row, show_stored, asked_one, no_name, fresh, fresh_outcome, said_in_row, stale_if_asked, ShowsSame}
 use Rattle.index_keep.specs.Last.{IsHeld, IsLast, SaysAll, Serves, needed_before}
 use Rattle.index_keep.specs.Right.{names_in, row_with, IsRightRow, AreKept, AreCurrent, HaveFresh, DifferAt, RenewsOneOf, fresh_row, is_evaluated}
-use Rattle.port_index.specs.Spent.{no_spending}
+use Rattle.turn_amounts.specs.Spent.{no_spending}
 use Rattle.index_keep.specs.Turns.{DropsTurn, paths_left, refresh_at}
 use Rattle.index_keep.specs.Keeper.{changed_in, begun_in, last_in, stays_there, DropsTo, IsKept, IsProgress, HasForgotten, Halts, Stops, TellsPresence}
 use Rattle.index_keep.specs.declared.keeper.Keeper.{Keeper}

@@ -19,12 +19,13 @@ use Rattle.port_index.specs.PathLaws.{MakefilesAreEvaluated}
 use Rattle.port_index.specs.PathOutcomes.{Absent, cost_at, outcome_at}
 use Rattle.port_index.specs.RowLaws.{OneRowMoreLeavesLess}
 use Rattle.port_index.specs.Spent.{ChecksFew, evaluation_cost, evaluations_of}
-use Rattle.port_index.specs.declared.spent.Spent.{Spent}
+use Rattle.turn_amounts.specs.declared.spent.Spent.{Spent}
 use Rattle.eval_ask.specs.Ask.{EvaluatesInTime, IsShort, IsUpBy, spent_in}
 use Rattle.index_keep.specs.Paths.{IsPathAsk}
 use Rattle.index_keep.specs.Right.{fresh_row}
 use Rattle.index_keep.specs.Shown.{ShownRows, fresh, fresh_outcome}
-use Rattle.index_keep.specs.Turns.{ContinuesRefresh, PaysAll, RefreshView, RefreshingPays, StayFresh, IsRefreshTurn, cost_left, evaluations_left, paths_left, refresh_at, spent_by, spent_in_all, units_left, units_saved}
+use Rattle.turn_amounts.specs.Spent.{spent_in_all}
+use Rattle.index_keep.specs.Turns.{ContinuesRefresh, PaysAll, RefreshView, RefreshingPays, StayFresh, IsRefreshTurn, cost_left, evaluations_left, paths_left, refresh_at, spent_by, units_left, units_saved}
 use Rattle.index_keep.specs.declared.keeper.Refreshed.{Refreshed}
 use Rattle.index_keep.specs.declared.keeper.Refreshed.TheVariants as turned
 use Rattle.index_keep.specs.Walk.{IsLacking}

@@ -27,10 +27,11 @@ use Rattle.port_index.specs.Pairs.{Pair, pair_in, pair_named, pair_at}
 use Rattle.port_index.specs.PathOutcomes.{port_finding, list_finding, finding_by, Finding, finding_at, cost_at, finding_in, finding_named, finding_of, finding_of_evaluation, nothing_found, own_directory}
 use Rattle.port_index.specs.PathQuestions.{questions_in, questions_after, questions_at}
 use Rattle.port_index.specs.Spent.{SpendsOnOne, SpendsOn, evaluation_cost}
-use Rattle.port_index.specs.declared.spent.Spent.{Spent}
+use Rattle.turn_amounts.specs.declared.spent.Spent.{Spent}
 use Rattle.index_row.specs.Rows.{RowValue}
 use Rattle.index_row.specs.Seen.{kept_row_seen}
-use Rattle.eval_ask.specs.Ask.{AsksOn, EvaluatesInTime, HasComeTo, HasLooked, IsAnswerTo, IsShort, IsUpBy, IsUpFrom, MakesInTime, spent_in, spent_less_saved, total_of}
+use Rattle.turn_amounts.specs.Spent.{IsUpFrom, total_of}
+use Rattle.eval_ask.specs.Ask.{AsksOn, EvaluatesInTime, HasComeTo, HasLooked, IsAnswerTo, IsShort, IsUpBy, MakesInTime, spent_in, spent_less_saved}
 use Rattle.mk_base.specs.declared.budget.TheConstants.{UNITS}
 use Rattle.index_keep.specs.Paths.{directory_named, flavors_named, row_made, IsNamed, IsFoundAt, IsPathAsk, IsMade}
 use Rattle.index_keep.specs.Right.{row_with, IsRightRow}

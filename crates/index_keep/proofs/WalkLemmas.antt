@@ -17,8 +17,9 @@ use Rattle.port_index.specs.Makefiles.{AreOfDirectories}
 use Rattle.port_index.specs.TreePaths.{directories, listed_from, named_at, named_in}
 use Rattle.port_index.specs.Pairs.{pair_at}
 use Rattle.port_index.specs.PathOutcomes.{PathOutcome, Absent, Faulty, Port, BadPort, Lists, BadList, FlavoredList, Other, cost_at, outcome_at}
-use Rattle.port_index.specs.Spent.{SpendsOnPath, no_spending}
-use Rattle.port_index.specs.declared.spent.Spent.{Spent}
+use Rattle.turn_amounts.specs.Spent.{no_spending, spent_in_all}
+use Rattle.port_index.specs.Spent.{SpendsOnPath}
+use Rattle.turn_amounts.specs.declared.spent.Spent.{Spent}
 use Rattle.index_row.specs.Rows.{RowValue}
 use Rattle.port_index.specs.RowLaws.{KnownRowsAreEnough, NeededAreNamed, SayAll, is_target_among}
 use Rattle.port_index.specs.Seen.{Said, entries_in, known_in, known_row, said_in}
@@ -36,7 +37,7 @@ use Rattle.index_keep.specs.Right.{AreCurrent, AreDecided, AreKept, HaveFresh, I
 use Rattle.index_keep.specs.Keeper.{IsReadyFor}
 use Rattle.eval_ask.specs.Ask.{IsShort, MakesInTime}
 use Rattle.index_keep.specs.Paths.{IsMade}
-use Rattle.index_keep.specs.Turns.{Evaluates, refresh_at, spent_in_all}
+use Rattle.index_keep.specs.Turns.{Evaluates, refresh_at}
 use Rattle.index_keep.specs.Walk.{AreNeededBeside, HasListed, HasPassed, HasRowMore, IsDirectoryStage, IsLacking, IsLastStage, IsListedStage, IsStage, LacksNone, LacksRow, ListsPaths, Says, listed_of, paths_of}
 use Rattle.index_keep.specs.declared.path_ask.MadeRow.{MadeRow}
 use Rattle.index_keep.specs.declared.walk.Walk.{Walk}

@@ -20,8 +20,8 @@ use Rattle.index_keep.specs.declared.keeper.Refreshed.TheVariants.{Done}
 use Rattle.index_keep.specs.Shown.{ShownRows, ShowsSame, made_stale, no_name, shown, stale_if_asked}
 use Rattle.index_keep.specs.Last.{IsHeld, SaysAll}
 use Rattle.index_keep.specs.declared.last_index.HeldIndex.{HeldIndex}
-use Rattle.port_index.specs.Spent.{no_spending}
-use Rattle.port_index.specs.declared.spent.Spent.{Spent}
+use Rattle.turn_amounts.specs.Spent.{no_spending}
+use Rattle.turn_amounts.specs.declared.spent.Spent.{Spent}
 use Rattle.index_keep.specs.declared.path_ask.PathAsk.{PathAsk}
 use Rattle.index_keep.specs.declared.walk.LastStage.{LastStage}
 use Rattle.index_keep.specs.declared.walk.Walk.{Walk}

@@ -12,9 +12,9 @@ use Rattle.read_trace.specs.Recorder.{view_of}
 use Rattle.read_trace.specs.declared.recorder.Recorder.{Recorder}
 use Rattle.index_row.specs.Seen.{kept_row_seen}
 use Rattle.port_index.specs.PathOutcomes.{cost_at}
-use Rattle.port_index.specs.Spent.{no_spending}
-use Rattle.port_index.specs.declared.spent.Spent.{Spent}
-use Rattle.eval_ask.specs.Ask.{spent_less_saved, total_of}
+use Rattle.turn_amounts.specs.Spent.{no_spending, total_of}
+use Rattle.turn_amounts.specs.declared.spent.Spent.{Spent}
+use Rattle.eval_ask.specs.Ask.{spent_less_saved}
 use Rattle.eval_ask.specs.declared.ask.Asked.{Asked}
 use Rattle.index_keep.specs.declared.path_ask.FoundPath.{FoundPath}
 use Rattle.index_keep.specs.declared.path_ask.MadeRow.{MadeRow}

@@ -11,10 +11,11 @@ use Rattle.port_index.specs.Pairs.{Pair, pair_at}
 use Rattle.port_index.specs.PathOutcomes.{cost_at, finding_at, finding_of_evaluation, own_directory}
 use Rattle.port_index.specs.PathQuestions.{questions_at}
 use Rattle.port_index.specs.Spent.{SpendsOnPath}
-use Rattle.port_index.specs.declared.spent.Spent.{Spent}
+use Rattle.turn_amounts.specs.declared.spent.Spent.{Spent}
 use Rattle.index_row.specs.Rows.{RowValue}
 use Rattle.index_row.specs.Seen.{kept_row_seen}
-use Rattle.eval_ask.specs.Ask.{EvaluatesInTime, HasComeTo, IsShort, IsUpBy, IsUpFrom, MakesInTime, spent_in}
+use Rattle.turn_amounts.specs.Spent.{IsUpFrom}
+use Rattle.eval_ask.specs.Ask.{EvaluatesInTime, HasComeTo, IsShort, IsUpBy, MakesInTime, spent_in}
 use Rattle.index_keep.specs.Right.{IsRightRow, row_with}
 use Rattle.eval_ask.specs.declared.ask.Asked.{Asked}
 use Rattle.index_keep.specs.declared.path_ask.FoundPath.{FoundPath}

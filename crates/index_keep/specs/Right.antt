@@ -16,7 +16,7 @@ use Rattle.port_index.specs.KeptFiles.{KeepsFiles}
 use Rattle.port_index.specs.PathOutcomes.{Finding, PathOutcome, finding_at}
 use Rattle.port_index.specs.PathQuestions.{questions_at}
 use Rattle.port_index.specs.Spent.{SpendsOnPath}
-use Rattle.port_index.specs.declared.spent.Spent.{Spent}
+use Rattle.turn_amounts.specs.declared.spent.Spent.{Spent}
 use Rattle.read_trace.specs.Recorder.{view_of}
 use Rattle.read_trace.specs.declared.recorder.Recorder.{Recorder}
 use Rattle.index_row.specs.Rows.{RowValue}

@@ -12,9 +12,9 @@ use Rattle.read_trace.specs.declared.recorder.Recorder.{Recorder}
 use Rattle.index_store.specs.Entries.{Entries, SameRows}
 use Rattle.index_row.specs.Seen.{kept_row_seen}
 use Rattle.index_row.specs.declared.rows.KeptRow.{KeptRow}
-use Rattle.port_index.specs.Spent.{no_spending}
+use Rattle.turn_amounts.specs.Spent.{no_spending}
 use Rattle.port_index.specs.declared.known_index.IndexPaths.{IndexPaths}
-use Rattle.port_index.specs.declared.spent.Spent.{Spent}
+use Rattle.turn_amounts.specs.declared.spent.Spent.{Spent}
 use Rattle.eval_ask.specs.Ask.{spent_in}
 use Rattle.index_keep.specs.declared.path_ask.PathTurned.{PathTurned}
 use Rattle.index_keep.specs.declared.keeper.Keeper.{Keeper}
@@ -22,8 +22,8 @@ use Rattle.index_keep.specs.declared.keeper.Progress.{Progress}
 use Rattle.index_keep.specs.declared.keeper.Progress.TheVariants.{Changed, Current}
 use Rattle.index_keep.specs.declared.keeper.Refreshed.{Refreshed}
 use Rattle.index_keep.specs.declared.last_index.HeldIndex.{HeldIndex}
-use Rattle.index_keep.specs.declared.turns.Given.{Given}
-use Rattle.index_keep.specs.declared.turns.WritingAsk.{WritingAsk}
+use Rattle.index_keep.specs.declared.keeper_turns.Given.{Given}
+use Rattle.index_keep.specs.declared.keeper_turns.WritingAsk.{WritingAsk}
 use Rattle.index_keep.specs.declared.walk.LastStage.{LastStage}
 use Rattle.index_keep.specs.declared.walk.Walk.{Walk}
 use Rattle.index_keep.specs.Shown.{ShowsSame, shown_after, shown_in}

@@ -9,12 +9,12 @@ use Rattle.port_index.specs.FilledRows.{is_one_of}
 use Rattle.port_index.specs.Index.{needed_paths}
 use Rattle.port_index.specs.Pairs.{pair_at}
 use Rattle.port_index.specs.PathOutcomes.{cost_at}
-use Rattle.port_index.specs.Spent.{ChecksFew, no_spending}
-use Rattle.port_index.specs.declared.spent.Spent.{Spent}
+use Rattle.turn_amounts.specs.Spent.{no_spending, spent_in_all, total_of}
+use Rattle.port_index.specs.Spent.{ChecksFew}
+use Rattle.turn_amounts.specs.declared.spent.Spent.{Spent}
 use Rattle.index_keep.specs.declared.keeper.Refreshed.{Refreshed}
 use Rattle.index_keep.specs.declared.keeper.Refreshed.TheVariants.{Evaluated, More, Done}
-pub use Rattle.eval_ask.specs.Ask.{spent_in_all}
-use Rattle.eval_ask.specs.Ask.{EvaluatesInTime, IsShort, MakesInTime, total_of}
+use Rattle.eval_ask.specs.Ask.{EvaluatesInTime, IsShort, MakesInTime}
 use Rattle.index_keep.specs.Shown.{ShownRows, ShowsSame, fresh}
 use Rattle.index_keep.specs.Right.{HaveFresh, AreCurrent, RenewsRow}
 use Rattle.index_keep.specs.Walk.{IsLacking}

@@ -2,7 +2,7 @@
 ghost use Rattle.std.specs.Prelude.{◌≡◌, ℕ, List, OnOk, OnErr};
 ghost use Rattle.mk_paths.specs.World.{World};
 ghost use Rattle.port_index.specs.Known.{IsIndexOf};
-ghost use Rattle.port_index.specs.Spent.{no_spending};
+ghost use Rattle.turn_amounts.specs.Spent.{no_spending};
 ghost use Rattle.index_store.specs.Entries.{KeepsProfiles};
 ghost use Rattle.index_keep.specs.Profiles.{profiles_of};
 ghost use Rattle.index_keep.specs.Keeper.{begun_in, last_in, refresh_of, size_at_hand, Halts};
@@ -19,12 +19,13 @@ use crate::walk::Walk;
 use index_store::PathRows;
 use mk_paths::{FilesFault, Name};
 use port_index::{
-    IndexPaths, KnownIndex, Spent, insert_text, is_makefile, known_rows_are_enough,
+    IndexPaths, KnownIndex, insert_text, is_makefile, known_rows_are_enough,
     path_is_the_same_where_answered, same_makefiles_serve,
 };
 use std::alloc::{AllocError, Global};
 use std::collections::BTreeSet;
 use std::mem;
+use turn_amounts::Spent;
 
 /// The most names that are known to have changed. Once there are more, the rows that asked for them are
 /// marked, and the names are forgotten.

@@ -4,13 +4,13 @@
 
 mod beside;
 mod keeper;
+mod keeper_turns;
 mod last_index;
 mod laws;
 mod path_ask;
 mod refresh_start;
 mod stage;
 mod staying_rows;
-mod turns;
 mod walk;
 
 pub use eval_ask::{Ask, AskTurned, Asked, asking_spends};

@@ -2,10 +2,10 @@
 ghost use Rattle.std.specs.Prelude.{◌≡◌, map, string_bytes, IfOk, OnOk};
 ghost use Rattle.mk_eval.specs.Agreement.{Agrees};
 ghost use Rattle.eval_cache.specs.CacheUse.{UsesCache};
-ghost use Rattle.port_index.specs.Spent.{no_spending};
+ghost use Rattle.turn_amounts.specs.Spent.{no_spending, IsUpFrom};
 ghost use Rattle.read_trace.specs.Recorder.{view_of};
 ghost use Rattle.index_row.specs.Seen.{kept_row_seen};
-ghost use Rattle.eval_ask.specs.Ask.{HasBegun, HasLooked, IsUpFrom, spent_in};
+ghost use Rattle.eval_ask.specs.Ask.{HasBegun, HasLooked, spent_in};
 ghost use Rattle.index_keep.specs.Paths as paths;
 ghost use Rattle.index_keep.specs.Paths.{IsNamed, IsUpTo};
 ghost use Rattle.index_keep.specs.PathFacts.{AddsNamesAsked, BeginsPath, FindsMakefile, FindsPlace};
@@ -13,17 +13,18 @@ ghost use Rattle.index_keep.specs.PathFacts.{GivesAsked, IsWithinCost, LendsFlav
 ghost use Rattle.index_keep.specs.PathFacts.{SpendsFewMore, TurnsPathOn};
 ghost use Rattle.index_keep.specs.Right.{LeavesAskedFiles, names_in};
 
-use eval_ask::{Ask, AskTurned, Asked, left_of};
+use eval_ask::{Ask, AskTurned, Asked};
 use eval_cache::EvalCache;
+use index_row::KeptRow;
 use mk_eval::evaluations_cost_few;
 use mk_files::Files;
 use mk_paths::{FilesFault, Name, Settings, find};
 use pkg_path::PkgPath;
+use port_index::finding_of;
 use port_rules::records_cost_few;
-use port_index::{Spent, finding_of};
 use read_trace::{Question, Recorder, Trace};
-use index_row::KeptRow;
 use std::alloc::{AllocError, Global};
+use turn_amounts::{Spent, left_of};
 
 /// The row of a path, and what was spent to make it.
 #[derive(Drop)]

@@ -10,10 +10,10 @@ ghost use Rattle.index_keep.specs.StartFacts.{SortsFresh, SortsOutdated, TakesOn
 ghost use Rattle.index_keep.specs.Walk.{Says};
 
 use crate::last_index::{LastIndex, LastLists};
+use index_row::{KeptRow, read_row};
 use index_store::{PathRows, StoredRow};
 use mk_paths::FilesFault;
 use port_index::{IndexPaths, KnownIndex, KnownRow, MemoryRows, is_one_among};
-use index_row::{KeptRow, read_row};
 use std::alloc::{AllocError, Global};
 use std::collections::BTreeSet;
 

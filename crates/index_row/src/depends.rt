@@ -4,7 +4,7 @@ ghost use Rattle.index_row.specs.Reads.{counted_items, list};
 ghost use Rattle.index_row.specs.Ports.{depend_number, depend_kind_of, depend_kind, depend};
 ghost use Rattle.index_row.specs.Answers.{Gives, Adds};
 
-use crate::fields::{
+use crate::scalars::{
     read_byte, read_number, read_str, read_text, write_byte, write_number, write_text,
 };
 use crate::unread::Unread;

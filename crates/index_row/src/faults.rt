@@ -3,7 +3,7 @@ ghost use Rattle.std.specs.Prelude.{◌≡◌, OnOk};
 ghost use Rattle.index_row.specs.Faults.{kind_of, fault_kind, fault};
 ghost use Rattle.index_row.specs.Answers.{Gives, Adds};
 
-use crate::fields::{read_byte, read_number, read_str, write_byte, write_number, write_text};
+use crate::scalars::{read_byte, read_number, read_str, write_byte, write_number, write_text};
 use crate::unread::Unread;
 use mk_base::{Fault, FaultKind};
 use std::alloc::{AllocError, Global};

@@ -4,13 +4,13 @@
 
 mod depends;
 mod faults;
-mod fields;
 mod names;
 mod outcomes;
 mod packages;
 mod ports;
 mod rows;
-mod texts;
+mod scalars;
+mod text_lists;
 mod unread;
 
 pub use rows::{KeptRow, read_row, write_row};

@@ -4,7 +4,7 @@ ghost use Rattle.pkg_name.specs.Name.{split_name};
 ghost use Rattle.index_row.specs.Names.{name};
 ghost use Rattle.index_row.specs.Answers.{Gives, Adds};
 
-use crate::fields::{read_str, write_text};
+use crate::scalars::{read_str, write_text};
 use crate::unread::Unread;
 use pkg_name::{NameFault, PkgName};
 use std::alloc::{AllocError, Global};

@@ -5,9 +5,9 @@ ghost use Rattle.index_row.specs.Rows.{outcome, outcome_of_kind};
 ghost use Rattle.index_row.specs.Answers.{Gives, Adds};
 
 use crate::faults::{read_fault, write_fault};
-use crate::fields::{read_byte, write_byte};
 use crate::ports::{read_port, write_port};
-use crate::texts::{read_texts, write_texts};
+use crate::scalars::{read_byte, write_byte};
+use crate::text_lists::{read_texts, write_texts};
 use crate::unread::Unread;
 use port_index::Row;
 use std::alloc::{AllocError, Global};

@@ -4,8 +4,8 @@ ghost use Rattle.index_row.specs.Reads.{counted_items, list};
 ghost use Rattle.index_row.specs.Ports.{port_package};
 ghost use Rattle.index_row.specs.Answers.{Gives, Adds};
 
-use crate::fields::{read_number, read_text, write_number, write_text};
 use crate::names::{read_name, write_name};
+use crate::scalars::{read_number, read_text, write_number, write_text};
 use crate::unread::Unread;
 use port_rules::Package;
 use std::alloc::{AllocError, Global};

@@ -4,9 +4,9 @@ ghost use Rattle.index_row.specs.Ports.{flavors, port};
 ghost use Rattle.index_row.specs.Answers.{Gives, Adds};
 
 use crate::depends::{read_depends, write_depends};
-use crate::fields::{read_text, write_text};
 use crate::packages::{read_packages, write_packages};
-use crate::texts::{read_texts, write_texts};
+use crate::scalars::{read_text, write_text};
+use crate::text_lists::{read_texts, write_texts};
 use crate::unread::Unread;
 use port_rules::{PortFlavors, PortRecord};
 use std::alloc::{AllocError, Global};

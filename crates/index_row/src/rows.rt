@@ -4,9 +4,9 @@ ghost use Rattle.index_row.specs.Rows.{row, row_of};
 ghost use Rattle.index_row.specs.Seen.{kept_row_seen};
 ghost use Rattle.index_row.specs.Answers.{Gives, Adds};
 
-use crate::fields::{read_number, write_number};
 use crate::outcomes::{read_outcome, write_outcome};
-use crate::texts::{read_texts, write_texts};
+use crate::scalars::{read_number, write_number};
+use crate::text_lists::{read_texts, write_texts};
 use crate::unread::Unread;
 use port_index::Finding;
 use std::alloc::{AllocError, Global};

@@ -26,8 +26,8 @@ use Rattle.sql_facts.specs.States.{Stays}
 use Rattle.sql_facts.proofs.Ending.{if_ok_then}
 use Rattle.sql_facts.proofs.Keyed.{ShowsEntries, row_found, selects}
 use Rattle.sql_facts.proofs.Statements.{seen as columns}
-use Rattle.index_store.specs.declared.port_table.Part.{Part}
-use Rattle.index_store.specs.declared.port_table.Part.TheVariants.{Earlier, Current}
+use Rattle.index_store.specs.declared.statements.Part.{Part}
+use Rattle.index_store.specs.declared.statements.Part.TheVariants.{Earlier, Current}
 use Rattle.index_store.specs.Entries.{StoredValue, SeenRow, AreRowsOf, is_one_of, row_path, value_in}
 use Rattle.index_store.specs.PortTable.{Entry, Rows, AreSettled, IsTableAtRest, layout, rows_at, all_of, no_rows, entries_at, tree_number}
 use Rattle.index_store.specs.PortTable.{is_row_at, is_set, value_stored}

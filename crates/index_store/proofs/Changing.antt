@@ -12,8 +12,8 @@ use Rattle.sqlite_rules.specs.Cast.{cast_row}
 use Rattle.sql_facts.specs.Filled.{AreFilled, entry_row, entries_of_rows, changed_at}
 use Rattle.sql_facts.proofs.Keyed.{Makes, cast_null, cast_integer, row_found, inserts_entry, updates_entries, updates_at, deletes_entries}
 use Rattle.sql_facts.proofs.Statements.{seen}
-use Rattle.index_store.specs.declared.port_table.Part.{Part}
-use Rattle.index_store.specs.declared.port_table.Part.TheVariants.{Earlier, Current}
+use Rattle.index_store.specs.declared.statements.Part.{Part}
+use Rattle.index_store.specs.declared.statements.Part.TheVariants.{Earlier, Current}
 use Rattle.index_store.specs.PortTable.{Entry, Rows, ByPath, IsFormed, HoldsInside, layout, rows_at, with_rows, tree_number, port_schema}
 use Rattle.index_store.specs.PortTable.{leaving_mark}
 use Rattle.index_store.specs.PortTable.{stale_mark}

@@ -12,7 +12,7 @@ use Rattle.sqlite.specs.State.{State}
 use Rattle.sql_facts.specs.Filled.{changed_at}
 use Rattle.sql_facts.proofs.Keyed.{cond_same}
 use Rattle.index_store.specs.Entries.{is_one_of}
-use Rattle.index_store.specs.declared.port_table.Part.TheVariants.{Earlier, Current}
+use Rattle.index_store.specs.declared.statements.Part.TheVariants.{Earlier, Current}
 use Rattle.index_store.specs.PortTable.{Entry, Rows, ByPath, HoldsInside, no_rows, with_rows, with_mark, marked_at, marked_among}
 use Rattle.index_store.specs.PortTable.{fresh_entry, replaced_at, with_row, without, leaving_mark, is_staying}
 use Rattle.index_store.proofs.Changing.{by_part}

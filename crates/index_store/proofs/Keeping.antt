@@ -7,8 +7,8 @@ use Rattle.sql_facts.specs.Filled.{AreFilled, entries_of_rows}
 use Rattle.sql_facts.specs.States.{IsSettled, Stays}
 use Rattle.sql_facts.proofs.Creating.{creates}
 use Rattle.sql_facts.proofs.Keyed.{none_filled}
-use Rattle.index_store.specs.declared.port_table.Part.TheVariants.{Earlier, Current}
-use Rattle.index_store.specs.declared.change.Change.{Change}
+use Rattle.index_store.specs.declared.statements.Part.TheVariants.{Earlier, Current}
+use Rattle.index_store.specs.declared.transactions.Change.{Change}
 use Rattle.index_store.specs.PortTable.{Rows, ByPath, AreSettled, AllowsFor, IsKeptWith, IsFormed, Holds, HoldsInside}
 use Rattle.index_store.specs.PortTable.{rows_at, entries_at, no_rows, all_of, layout, tree_number, earlier_schema, current_table}
 use Rattle.index_store.specs.PortTable.{create_current}

@@ -6,9 +6,9 @@ use Rattle.std.specs.Option.{option_or}
 use Rattle.std.specs.Str.{bytes_eq}
 use Rattle.std.proofs.lemmas.Map.Entries.{option_filter}
 use Rattle.mk_text.specs.Profiles.{profile_number}
-use Rattle.index_store.specs.declared.port_table.Part.TheVariants.{Earlier, Current}
-use Rattle.index_store.specs.declared.change.Change.{Change}
-use Rattle.index_store.specs.declared.change.Change.TheVariants.{Put, PutEarlier, Mark, MarkAll, TakeOut}
+use Rattle.index_store.specs.declared.statements.Part.TheVariants.{Earlier, Current}
+use Rattle.index_store.specs.declared.transactions.Change.{Change}
+use Rattle.index_store.specs.declared.transactions.Change.TheVariants.{Put, PutEarlier, Mark, MarkAll, TakeOut}
 use Rattle.index_store.specs.Entries.{is_one_of}
 use Rattle.index_store.specs.PortTable.{Entry, Rows, AreSettled, AllowsFor, is_staying, all_of, stale_mark, leaving_mark}
 use Rattle.index_store.specs.PortTable.{with_mark, fresh_entry, marked_among, all_marked, staying_of, without}

@@ -7,12 +7,12 @@ use Rattle.mk_text.specs.Profiles.{profile_number}
 use Rattle.sqlite.specs.Held.{Held}
 use Rattle.sqlite_trees.specs.declared.memory.MemStore.{MemStore}
 use Rattle.sql_facts.specs.States.{state_of}
-use Rattle.index_store.specs.declared.port_table.Part.{Part}
-use Rattle.index_store.specs.declared.port_table.Mark.{Mark}
-use Rattle.index_store.specs.declared.port_table.Mark.TheVariants.{Stale, Leaving}
-use Rattle.index_store.specs.declared.port_table.Part.TheVariants.{Earlier, Current}
-use Rattle.index_store.specs.declared.change.Change.{Change}
-use Rattle.index_store.specs.declared.change.Change.TheVariants.{Put, PutEarlier, Mark as MarkPaths, MarkAll, TakeOut}
+use Rattle.index_store.specs.declared.statements.Part.{Part}
+use Rattle.index_store.specs.declared.statements.Mark.{Mark}
+use Rattle.index_store.specs.declared.statements.Mark.TheVariants.{Stale, Leaving}
+use Rattle.index_store.specs.declared.statements.Part.TheVariants.{Earlier, Current}
+use Rattle.index_store.specs.declared.transactions.Change.{Change}
+use Rattle.index_store.specs.declared.transactions.Change.TheVariants.{Put, PutEarlier, Mark as MarkPaths, MarkAll, TakeOut}
 use Rattle.index_store.specs.Entries.{is_one_of}
 use Rattle.index_store.specs.PortTable.{Entry, Rows, ByPath, Holds, HoldsInside, is_row_at, rows_of, stale_mark, leaving_mark}
 use Rattle.index_store.specs.PortTable.{marked_at, marked_among, all_marked, staying_of, without, with_row, with_rows, replaced_at}

@@ -30,8 +30,8 @@ use Rattle.sql_facts.specs.States.{IsSettled, state_of}
 use Rattle.index_store.specs.Entries.{StoredValue, SeenRow, Entries, Profiles, AreRowsOf, PutsRow, PutsProfile}
 use Rattle.index_store.specs.Entries.{is_one_of, stored_seen}
 use Rattle.index_store.specs.declared.path_rows.StoredRow.{StoredRow}
-use Rattle.index_store.specs.declared.port_table.Part.{Part}
-use Rattle.index_store.specs.declared.port_table.Part.TheVariants.{Earlier, Current}
+use Rattle.index_store.specs.declared.statements.Part.{Part}
+use Rattle.index_store.specs.declared.statements.Part.TheVariants.{Earlier, Current}
 
 -- a row of a table: its path, the number of its mark, its bytes, and the number of the profile with which it
 -- was written, which a row of the release before lacks

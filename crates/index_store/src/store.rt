@@ -5,16 +5,16 @@ ghost use Rattle.index_store.specs.Entries.{HasNoRow, SameRows, KeepsProfiles};
 ghost use Rattle.index_store.specs.PortTable.{stored_by, profiles_by, StoresRow, WritesUnprofiled};
 ghost use Rattle.index_store.specs.PortTable.{ListsNoted, NotesPath, ForgetsIf, ForgetsAll};
 
-use crate::change::{Change, open, write};
 use crate::path_rows::{PathRows, StoredRow};
-use crate::rows::read_rows;
+use crate::read_rows::read_rows;
+use crate::transactions::{Change, open, write};
 use mk_paths::FilesFault;
 use mk_text::Profile;
+use sql_facts::Sqlite;
 use sqlite::{Connection, MemStore};
 use std::alloc::{AllocError, Global};
 use std::collections::BTreeSet;
 use std::marker::Model;
-use sql_facts::Sqlite;
 
 /// The rows of one tenant's index, in a database in memory of its own. Clauses see what is stored for each
 /// path (`stored_by`), and with which profile (`profiles_by`).

@@ -1,7 +1,8 @@
 //! Makefiles evaluated, and values of their variables.
 use crate::failing_files::{Asking, FailingFiles, failing_answer};
+use crate::faults::fault_answer;
 use crate::files::given_name;
-use crate::variables::{fault_answer, text_of_variable};
+use crate::variables::text_of_variable;
 use crate::world::World;
 use case_lines::{Answer, Trouble, as_number, as_text, one_text};
 use mk_base::{PureStop, Stop, UNITS};

@@ -3,6 +3,7 @@
 
 mod evaluation;
 mod failing_files;
+mod faults;
 mod files;
 mod loops;
 mod setup;

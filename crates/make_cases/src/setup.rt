@@ -1,7 +1,7 @@
 //! What lines without `=>` set up, and what the layers of makefiles give over it.
 use crate::truth::truth_answer;
 use crate::world::World;
-use crate::{evaluation, files, loops, variables};
+use crate::{evaluation, faults, files, loops, variables};
 use case_lines::{Answer, Trouble, as_number, as_text};
 use mk_env::Env;
 use mk_files::Content;
@@ -94,9 +94,9 @@ impl Setup {
         let alloc = self.alloc;
         let variables = &self.variables;
         match call {
-            "numbers of kinds" => Ok(variables::numbers_of_kinds(alloc)),
-            "budget pays asks" => variables::budget(alloc, given),
-            "blame" => variables::blamed(alloc, given),
+            "numbers of kinds" => Ok(faults::numbers_of_kinds(alloc)),
+            "budget pays asks" => faults::budget(alloc, given),
+            "blame" => faults::blamed(alloc, given),
             "expand" | "expand within" | "expand now" | "variable" | "inside" | "inside within" => {
                 variables::expansion(alloc, variables, call, given)
             }

@@ -3,7 +3,7 @@ use Rattle.std.proofs.Common.{◌≡◌, ◌<◌, ◌≤◌, ◌+◌, ◌∙◌,
 use Rattle.std.proofs.Math.ListN.{get_or-append}
 use Rattle.std.proofs.lemmas.List.{get_or-append-add}
 use Rattle.std.proofs.lemmas.List.Elements.{All-head, All-tail}
-use Rattle.mk_text.specs.declared.span.Span.{Span}
+use Rattle.mk_text.specs.declared.word_spans.Span.{Span}
 use Rattle.mk_cond_tree.specs.declared.nodes.Condition.{Condition, out-Condition}
 use Rattle.mk_cond_tree.specs.declared.nodes.Conjunction.{Conjunction, out-Conjunction}
 use Rattle.mk_cond_tree.specs.declared.nodes.Term.{Term}

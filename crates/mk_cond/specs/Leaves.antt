@@ -10,8 +10,8 @@ use Rattle.mk_base.specs.declared.faults.FaultKind.TheVariants as kinds
 use Rattle.mk_base.specs.Meter.{Meter}
 use Rattle.mk_base.specs.Outcome.{Work, give, fail, ◌>>=◌}
 use Rattle.mk_text.specs.Words.{words_of, span_text}
-use Rattle.mk_ref.specs.declared.piece.Piece.{Piece}
-use Rattle.mk_ref.specs.declared.piece.Piece.TheVariants as pieces
+use Rattle.mk_ref.specs.declared.pieces_of_text.Piece.{Piece}
+use Rattle.mk_ref.specs.declared.pieces_of_text.Piece.TheVariants as pieces
 use Rattle.mk_ref.specs.Units.{units_of, left_of}
 use Rattle.mk_ref.specs.Pieces.{TextPiece, LiteralPiece, EscapedDollarPiece, ReferencePiece, pieces_of}
 use Rattle.mk_env.specs.Texts.{Variables, text_in}

@@ -3,8 +3,8 @@ ghost use Rattle.mk_base.specs.Meter.{IsLater};
 ghost use Rattle.mk_cond.specs.Tasks.{TellsCall, TellsExists, TellsDefined, TellsEmpty};
 
 use crate::setting::Setting;
-use mk_cond_tree::Call;
 use mk_base::{Budget, FaultKind, PureStop, Stop};
+use mk_cond_tree::Call;
 use mk_env::{Env, expand, expand_inside};
 use mk_files::ask_has;
 use mk_paths::{Name, NameFault, Names};

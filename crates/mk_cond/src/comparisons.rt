@@ -7,8 +7,8 @@ ghost use Rattle.mk_cond.specs.Tasks.{ComparesSides};
 
 use crate::numbers::{number_of, numbers_compare};
 use crate::setting::Setting;
-use mk_cond_tree::{Comparison, Side};
 use mk_base::{Budget, FaultKind, PureStop};
+use mk_cond_tree::{Comparison, Side};
 use mk_env::expand;
 use std::alloc::Global;
 

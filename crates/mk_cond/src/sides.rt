@@ -10,8 +10,8 @@ ghost use Rattle.mk_cond.specs.Tasks.{DoesSide, DoesWord, TellsHasText, TellsHas
 use crate::calls::call_truth;
 use crate::numbers::{isnt_zero, number_of};
 use crate::setting::Setting;
-use mk_cond_tree::Side;
 use mk_base::{Budget, FaultKind, PureStop, Stop};
+use mk_cond_tree::Side;
 use mk_env::{Env, expand};
 use mk_paths::Names;
 use mk_ref::{Piece, PiecesFault, pieces};

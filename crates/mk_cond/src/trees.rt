@@ -9,8 +9,8 @@ use crate::calls::call_truth;
 use crate::comparisons::compared;
 use crate::setting::Setting;
 use crate::sides::side_truth;
-use mk_cond_tree::{Condition, Conjunction, Term};
 use mk_base::{Budget, FaultKind, Stop};
+use mk_cond_tree::{Condition, Conjunction, Term};
 use mk_paths::Names;
 use std::alloc::Global;
 

@@ -4,7 +4,7 @@ use Rattle.std.specs.Str.{IsUtf8}
 use Rattle.std.proofs.lemmas.List.Elements.{All-weaker}
 use Rattle.mk_ref.specs.Outside.{outside}
 use Rattle.mk_ref.specs.Laws.{OutsideKeepsPlaces}
-use Rattle.mk_text.specs.declared.span.Span.{Span}
+use Rattle.mk_text.specs.declared.word_spans.Span.{Span}
 use Rattle.mk_text.specs.Words.{IsSpanOf}
 use Rattle.mk_cond_tree.specs.declared.tokens.Side.TheVariants.{Quoted, Bare}
 use Rattle.mk_cond_tree.specs.declared.tokens.Token.{Token}

@@ -6,7 +6,7 @@ use Rattle.std.specs.Option.{option_or}
 use Rattle.std.specs.Str.{bytes_eq}
 use Rattle.general_facts.specs.Ascii.{bang, double_quote, ampersand, left_paren, right_paren, less_sign, equals_sign}
 use Rattle.general_facts.specs.Ascii.{greater_sign, bar}
-use Rattle.mk_text.specs.declared.span.Span.{Span}
+use Rattle.mk_text.specs.declared.word_spans.Span.{Span}
 use Rattle.mk_text.specs.Blanks.{is_blank}
 use Rattle.mk_cond_tree.specs.declared.tokens.Comparison.TheVariants as o
 use Rattle.mk_cond_tree.specs.declared.tokens.Call.{Call}

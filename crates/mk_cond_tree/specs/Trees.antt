@@ -4,7 +4,7 @@
 --   and = not {"&&" not}
 --   not = "!" not | "(" or ")" | call | side [comparison side]
 use Rattle.std.specs.Prelude.{◌≡◌, ◌≤◌, ℕ, suc, max, List, [], ◌∷◌, ◌++◌}
-use Rattle.mk_text.specs.declared.span.Span.{Span}
+use Rattle.mk_text.specs.declared.word_spans.Span.{Span}
 use Rattle.mk_cond_tree.specs.declared.tokens.Comparison.{Comparison}
 use Rattle.mk_cond_tree.specs.declared.tokens.Call.{Call}
 use Rattle.mk_cond_tree.specs.declared.tokens.Side.{Side}

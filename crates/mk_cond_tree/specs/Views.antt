@@ -2,7 +2,7 @@
 use Rattle.std.specs.Prelude.{◌≡◌, List, Option, option_map, map, Box}
 use Rattle.std.specs.declared.alloc.Global.{Global}
 use Rattle.std.proofs.Common.{ap, sym, ◌∙◌}
-use Rattle.mk_text.specs.declared.span.Span.{Span}
+use Rattle.mk_text.specs.declared.word_spans.Span.{Span}
 use Rattle.std.specs.Borrow.{Bor}
 use Rattle.mk_cond_tree.specs.declared.nodes.Condition.{Condition, Condition-F, fold-Condition, out-Condition, fold_out-Condition}
 use Rattle.mk_cond_tree.specs.declared.nodes.Conjunction.{Conjunction, Conjunction-F, fold-Conjunction}

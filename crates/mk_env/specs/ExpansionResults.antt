@@ -21,7 +21,7 @@ use Rattle.mk_env.specs.Texts.{Variables, language_of}
 use Rattle.mk_env.specs.Expansion as meaning
 use Rattle.mk_env.specs.Mentions.{lent_text}
 use Rattle.mk_env.specs.ActiveNames.{names_of, references_in}
-use Rattle.mk_ref.specs.declared.piece.Piece.{Piece}
+use Rattle.mk_ref.specs.declared.pieces_of_text.Piece.{Piece}
 use Rattle.mk_ref.specs.Places.{piece_in_text}
 
 -- an expansion that gives a text or stops at a fault; of the other stop, that memory ran out, nothing is said

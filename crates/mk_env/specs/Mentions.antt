@@ -3,8 +3,8 @@ use Rattle.std.specs.Prelude.{◌≡◌, ℕ, List, map, Option, option_map, Res
 use Rattle.std.specs.Borrow.{Bor}
 use Rattle.std.specs.declared.alloc.Global.{Global}
 use Rattle.mk_text.specs.Words.{span_text}
-use Rattle.mk_ref.specs.declared.piece.Piece.{Piece}
-use Rattle.mk_ref.specs.declared.piece.Reference.{Reference}
+use Rattle.mk_ref.specs.declared.pieces_of_text.Piece.{Piece}
+use Rattle.mk_ref.specs.declared.pieces_of_text.Reference.{Reference}
 use Rattle.mk_ref.specs.Units.{sources, before_colon, following_colon, units_of}
 use Rattle.mk_ref.specs.Pieces.{pieces_of}
 use Rattle.mk_ref.specs.Places.{piece_in_text}

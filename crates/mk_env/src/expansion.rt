@@ -5,7 +5,7 @@ ghost use Rattle.mk_env.specs.ExpansionResults.{GivesText, ExpandsInside, Modifi
 
 use crate::Env;
 use crate::insides::mention_of;
-use crate::mentions::read_modifiers;
+use crate::modifiers::read_modifiers;
 use crate::references::{apply_modifiers, expand_named, expand_reference, expand_text};
 use crate::scope::{ExpansionScope, Undefined};
 use mk_base::{Budget, FaultKind, PureStop};

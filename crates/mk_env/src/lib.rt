@@ -6,6 +6,7 @@ mod expansion;
 mod insides;
 mod laws;
 mod mentions;
+mod modifiers;
 mod references;
 mod scope;
 mod variables;

@@ -9,9 +9,8 @@ ghost use Rattle.mk_env.specs.ExpansionResults.{GivesText, BeginsReference, Expa
 ghost use Rattle.mk_env.specs.ExpansionResults.{Applies, AppliesAll, ExpandsParts, IsAppliedAsItIs, JoinsPiece, JoinsPart};
 
 use crate::bounded_texts::{copy_bounded, has_dollar, means_itself, push_bounded};
-use crate::mentions::{
-    Mention, apply_expanded, apply_substitution, as_written, cut, mentioned, read_modifiers,
-};
+use crate::mentions::{Mention, as_written, cut, mentioned};
+use crate::modifiers::{apply_expanded, apply_substitution, read_modifiers};
 use crate::scope::{Active, ExpansionScope};
 use mk_base::{Budget, FaultKind, PureStop};
 use mk_mods::{Modifier, Part};

@@ -1,5 +1,5 @@
-use Rattle.mk_eval.specs.declared.forms.Form.{Form}
-use Rattle.mk_eval.specs.declared.forms.Form.TheVariants as forms
+use Rattle.mk_eval.specs.declared.file_forms.Form.{Form}
+use Rattle.mk_eval.specs.declared.file_forms.Form.TheVariants as forms
 use Rattle.mk_eval.specs.Includes as includes
 
 -- the form that the code has

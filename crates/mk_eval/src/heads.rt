@@ -5,15 +5,18 @@ ghost use Rattle.mk_ast.specs.Kinds.{shown_kind};
 ghost use Rattle.mk_files.specs.Work.{Asks};
 ghost use Rattle.mk_eval.specs.Heads as heads;
 ghost use Rattle.mk_eval.specs.LineParts.{PutsIn, GivesHead, GivesHeader, BeginsLoop, condition};
-ghost use Rattle.mk_eval.specs.Steps.{Pays, Judges};
+ghost use Rattle.mk_eval.specs.Steps.{Pays, Judges, condition_at};
 
+use crate::includes::ExecutedFile;
+use crate::state::EvalState;
 use mk_ast::{Directive, LineKind, line_kind};
-use mk_base::{Budget, FaultKind, PureStop, Stop};
+use mk_base::{Budget, Fault, FaultKind, PureStop, Stop};
 use mk_cond::{Form, Setting, directive_truth};
 use mk_cond_tree::Call;
 use mk_env::Env;
 use mk_loop::{Iteration, Iterations, put_words, read_header};
 use mk_paths::{Name, Names};
+use mk_text::Logical;
 use std::alloc::{AllocError, Global};
 use std::rc::Rc;
 
@@ -26,6 +29,38 @@ pub(crate) struct Head<'a> {
     pub(crate) loops: &'a [Iteration],
     /// Its text.
     pub(crate) text: &'a str,
+}
+
+/// Whether the condition of a line holds. It costs a unit, before anything else.
+///
+/// # Errors
+///
+/// At the line, it is `Budget` if no unit is left. In a loop, the faults of `mk_loop::put_words` come
+/// next. Then come those of `mk_cond::directive_truth`. If the files fail, their fault is returned as it
+/// is. It is also `Memory` if memory runs out.
+pub fn holds<F: Names>(
+    alloc: Global,
+    here: ExecutedFile<'_>,
+    line: &Logical,
+    state: &EvalState,
+    files: &mut F,
+    budget: &mut Budget,
+) -> Result<bool, Stop<Fault>>
+    ensures gives { Judges (condition_at here.entry line.now state.now) result
+        (budget.old, F.view files.old) (budget.new, F.view files.new) }
+    ensures asks { Asks F.fails_with result (F.view files.old) (F.view files.new) }
+    ensures later { IsLater budget.old budget.new }
+    ensures paid { IfOk result (λ held. Pays budget.old budget.new) }
+{
+    let head = Head {
+        variables: &state.variables,
+        loops: here.loops,
+        text: line.text(),
+    };
+    match judge(alloc, here.makefile, head, files, budget) {
+        Ok(held) => Ok(held),
+        Err(stop) => Err(stop.blame(alloc, here.file.as_str(), line.line())),
+    }
 }
 
 /// What the directive makes of its condition; `None` if it has none.

@@ -7,9 +7,9 @@ ghost use Rattle.mk_eval.specs.LineParts.{OpensInEveryState, asked_file, own_fil
 ghost use Rattle.mk_eval.specs.LineParts.{inner_file, file_if_there, port_file};
 ghost use Rattle.mk_eval.specs.Steps.{MayOpen, OpensFile};
 
-use crate::forms::{Form, form_of};
+use crate::file_forms::{Form, form_of};
+use crate::file_requests::Request;
 use crate::outcome::Kind;
-use crate::requests::Request;
 use crate::state::EvalState;
 use mk_base::{Budget, FaultKind, Stop};
 use mk_files::{Content, Files, ask_read};

@@ -2,8 +2,8 @@
 //! variables. The definitions say what a whole makefile means.
 #![tactic(auto)]
 
-mod evaluation;
-mod forms;
+mod file_forms;
+mod file_requests;
 mod heads;
 mod includes;
 mod iterations;
@@ -12,20 +12,19 @@ mod lines;
 mod modules;
 mod outcome;
 mod parses;
-mod requests;
 mod start_variables;
 mod state;
-mod steps;
+mod values;
 
-pub use evaluation::value;
+pub use file_requests::Request;
+pub use heads::holds;
 pub use includes::{ExecutedFile, ExecutedLine, Included};
 pub use iterations::{begin_iteration, iterations_at, loops_at};
 pub use laws::{evaluations_cost_few, same_where_answered};
-pub use lines::perform;
+pub use lines::{open_line, perform};
 pub use modules::{may_ask_modules, module_words, open_module};
 pub use outcome::{Evaluated, Failed, Kind, Valued, with_units};
 pub use parses::{Anew, Parses};
-pub use requests::Request;
 pub use start_variables::start;
 pub use state::EvalState;
-pub use steps::{holds, open_line};
+pub use values::value;

@@ -1,4 +1,4 @@
-//! What the lines of a makefile do to its variables.
+//! What the lines of a makefile do that frame no block: to its variables, and which file they open.
 ghost use Rattle.std.specs.Prelude.{◌≡◌, OnOk, OnErr, IfOk};
 ghost use Rattle.mk_base.specs.Meter.{IsLater};
 ghost use Rattle.mk_text.specs.Words.{words_of};
@@ -6,15 +6,54 @@ ghost use Rattle.mk_ast.specs.declared.kinds.Operator.TheVariants as operators;
 ghost use Rattle.mk_loop.specs.Places.{made_or_line};
 ghost use Rattle.mk_eval.specs.Lines as lines;
 ghost use Rattle.mk_eval.specs.LineParts.{Executes, ExecutesKind, Directs, Assigns, AssignsFreely};
-ghost use Rattle.mk_eval.specs.Steps.{Performs, Requests};
+ghost use Rattle.mk_files.specs.Work.{Asks};
+ghost use Rattle.mk_eval.specs.Steps.{OpensFile, PaysToOpen, Performs, Requests, line_file};
 
-use crate::requests::Request;
+use crate::file_requests::Request;
+use crate::includes::{ExecutedFile, Included, open_request};
+use crate::state::EvalState;
 use mk_ast::{Directive, LineKind, Operator, is_word, line_kind, plain_kind};
-use mk_base::{Budget, FaultKind, PureStop};
+use mk_base::{Budget, Fault, FaultKind, PureStop, Stop};
 use mk_env::{Env, expand, expand_now};
+use mk_files::Files;
 use mk_loop::{Iteration, put_words};
-use mk_text::{TEXT_LIMIT, words};
+use mk_text::{Logical, TEXT_LIMIT, words};
 use std::alloc::{AllocError, Global};
+
+/// Does what a line that frames no block says, except executing the file that it opens, if any: that is
+/// the answer. A line that isn't blank costs a unit.
+///
+/// # Errors
+///
+/// At its line, the faults are those of `perform`. If the line asks for a file, these come next, in this
+/// order. It is `Include` if its text names no file in one of the forms. It is `IncludeDepth` if more than
+/// 16 files would include one another. It is `Include` if a name in quotes is no file name. It is
+/// `Questions` for the 257th question. It is `Include` if the file is missing and may not be. If the files
+/// fail, their fault is returned as it is. It is also `Memory` if memory runs out.
+pub fn open_line<F: Files>(
+    alloc: Global,
+    here: ExecutedFile<'_>,
+    line: &Logical,
+    state: &mut EvalState,
+    files: &mut F,
+    budget: &mut Budget,
+) -> Result<Option<Included>, Stop<Fault>>
+    ensures gives { OpensFile (line_file here.entry line.now) (state.old, state.new) result
+        (budget.old, F.view files.old) (budget.new, F.view files.new) }
+    ensures asks { Asks F.fails_with result (F.view files.old) (F.view files.new) }
+    ensures later { IsLater budget.old budget.new }
+    ensures opens { IfOk result (PaysToOpen here.entry.levels budget.old budget.new) }
+{
+    let opened = match perform(alloc, &mut state.variables, here.loops, line.text(), budget) {
+        Ok(None) => Ok(None),
+        Ok(Some(request)) => open_request(alloc, here, state, &request, files, budget),
+        Err(stop) => Err(Stop::from(stop)),
+    };
+    match opened {
+        Ok(opened) => Ok(opened),
+        Err(stop) => Err(stop.blame(alloc, here.file.as_str(), line.line())),
+    }
+}
 
 /// Does what the line with this text says. The line doesn't begin, part or end a block. `loops`
 /// are the loops around it, the innermost last. The answer is the file that the line asks for, if it asks for one: opening it is all

@@ -6,8 +6,8 @@ ghost use Rattle.std.specs.FinMap as map;
 ghost use Rattle.mk_paths.specs.FilesView.{Fails};
 ghost use Rattle.mk_files.specs.MemoryFiles.{empty_holding, with_file, without_file, view_of, IsMemory, files_of, ListsNames};
 
-use crate::shared::Content;
-use crate::worlds::{Files, Listing};
+use crate::content::Content;
+use crate::files::{Files, Listing};
 use mk_paths::{FilesFault, Name, Names};
 use std::alloc::{AllocError, Global};
 use std::collections::BTreeMap;

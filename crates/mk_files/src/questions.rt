@@ -9,8 +9,8 @@ ghost use Rattle.mk_files.specs.AfterQuestions as after_questions;
 ghost use Rattle.mk_files.specs.AfterQuestions.{looked, IsPossibleFailure, AsksAndStops};
 ghost use Rattle.mk_files.specs.Work.{Asks};
 
-use crate::shared::Content;
-use crate::worlds::Files;
+use crate::content::Content;
+use crate::files::Files;
 use mk_base::{Budget, FaultKind, Stop};
 use mk_paths::{FilesFault, Name, Names};
 

@@ -5,7 +5,7 @@ use Rattle.std.proofs.Math.Nat.{mul-le-mul_right}
 use Rattle.std.proofs.lemmas.Bool.{or_right}
 use Rattle.std.specs.Prelude.{◌↔◌, IsTrue}
 use Rattle.std.specs.Str.{chars}
-use Rattle.mk_glob.specs.declared.signs.PatternSign.{PatternSign}
+use Rattle.mk_glob.specs.declared.pattern_signs.PatternSign.{PatternSign}
 use Rattle.mk_glob.specs.declared.matcher.Rest.{Rest}
 use Rattle.mk_glob.specs.Signs.{signs_of}
 use Rattle.mk_glob.specs.Items.{any_run, one_of, First, first_at, items, items_of}

@@ -5,8 +5,8 @@ use Rattle.std.proofs.lemmas.Str.{chars_past_char, chars-nil, encodes-chars, len
 use Rattle.std.specs.Str.{IsUtf8, chars}
 use Rattle.std.specs.Char.{len_utf8}
 use lib.Utf8.{encodes, encode}
-use Rattle.mk_glob.specs.declared.signs.PatternSign.{PatternSign}
-use Rattle.mk_glob.specs.declared.signs.PatternSign.TheVariants.{Bare, Plain}
+use Rattle.mk_glob.specs.declared.pattern_signs.PatternSign.{PatternSign}
+use Rattle.mk_glob.specs.declared.pattern_signs.PatternSign.TheVariants.{Bare, Plain}
 use Rattle.mk_glob.specs.Signs.{signs, signs_of}
 use Rattle.mk_glob.specs.FirstSigns.{width, BeginsWithChar, BeginsWithSign}
 use Rattle.mk_glob.specs.Steps.{widths}

@@ -5,8 +5,8 @@ use Rattle.std.proofs.lemmas.Bool.Decides.{nat_tests}
 use Rattle.std.proofs.Math.Bool.{or-false}
 use Rattle.std.specs.Option.{option_map, unwrap_or}
 use Rattle.std.specs.Str.{IsUtf8, chars}
-use Rattle.mk_glob.specs.declared.signs.PatternSign.{PatternSign}
-use Rattle.mk_glob.specs.declared.signs.PatternSign.TheVariants.{Bare, Plain}
+use Rattle.mk_glob.specs.declared.pattern_signs.PatternSign.{PatternSign}
+use Rattle.mk_glob.specs.declared.pattern_signs.PatternSign.TheVariants.{Bare, Plain}
 use Rattle.mk_glob.specs.Signs.{character, is_bare, signs_of}
 use Rattle.mk_glob.specs.Items.{Range, range_of_one, Item, one_of, exactly, First, members, Bracketed, bracketed, closed, bracket, first_at, items, items_of, is_within, admits}
 use Rattle.mk_glob.specs.Matcher.{fits_items, fits}

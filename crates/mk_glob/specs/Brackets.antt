@@ -2,7 +2,7 @@
 use Rattle.std.specs.Prelude.{◌≡◌, ◌⊎◌, ℕ, Bool, true, false, List, [], ◌∷◌, Option, Some, None, MatchOption}
 use Rattle.std.specs.Borrow.{Bor}
 use Rattle.general_facts.specs.Ascii.{dash as dash_byte, right_bracket}
-use Rattle.mk_glob.specs.declared.signs.PatternSign.{PatternSign}
+use Rattle.mk_glob.specs.declared.pattern_signs.PatternSign.{PatternSign}
 use Rattle.mk_glob.specs.Signs.{signs_of, character, is_bare}
 use Rattle.mk_glob.specs.Items.{Range, one_of, bracketed, bracket, members, is_in_some_range, admits}
 

@@ -3,8 +3,8 @@ use Rattle.std.specs.Prelude.{◌≡◌, ℕ, ◌+◌, List, [], ◌∷◌, leng
 use Rattle.std.specs.Borrow.{Bor}
 use Rattle.std.specs.Str.{IsUtf8, chars}
 use Rattle.std.specs.Char.{len_utf8}
-use Rattle.mk_glob.specs.declared.signs.PatternSign.{PatternSign}
-use Rattle.mk_glob.specs.declared.signs.PatternSign.TheVariants.{Bare, Plain}
+use Rattle.mk_glob.specs.declared.pattern_signs.PatternSign.{PatternSign}
+use Rattle.mk_glob.specs.declared.pattern_signs.PatternSign.TheVariants.{Bare, Plain}
 use Rattle.mk_glob.specs.Signs.{signs_of}
 
 -- how many bytes a sign takes

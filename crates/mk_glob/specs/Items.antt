@@ -7,8 +7,8 @@ use Rattle.std.specs.Prelude.{Some, None, if◌then◌else◌}
 use Rattle.std.specs.List.{list_any}
 use Rattle.std.specs.Option.{option_map, unwrap_or}
 use Rattle.general_facts.specs.Ascii.{bang, star, dash as dash_byte, question_mark, left_bracket, right_bracket}
-use Rattle.mk_glob.specs.declared.signs.PatternSign.{PatternSign}
-use Rattle.mk_glob.specs.declared.signs.PatternSign.TheVariants.{Bare, Plain}
+use Rattle.mk_glob.specs.declared.pattern_signs.PatternSign.{PatternSign}
+use Rattle.mk_glob.specs.declared.pattern_signs.PatternSign.TheVariants.{Bare, Plain}
 use Rattle.mk_glob.specs.Signs.{signs_of, character, is_bare}
 
 -- the characters from a low one up to a high one, both included; none if the low one is above the high one

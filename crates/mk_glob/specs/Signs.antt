@@ -3,8 +3,8 @@
 use Rattle.std.specs.Prelude.{ℕ, Bool, false, ◌==◌, List, [], ◌∷◌, if◌then◌else◌}
 use Rattle.std.specs.Str.{chars}
 use Rattle.general_facts.specs.Ascii.{backslash}
-use Rattle.mk_glob.specs.declared.signs.PatternSign.{PatternSign}
-use Rattle.mk_glob.specs.declared.signs.PatternSign.TheVariants.{Bare, Plain}
+use Rattle.mk_glob.specs.declared.pattern_signs.PatternSign.{PatternSign}
+use Rattle.mk_glob.specs.declared.pattern_signs.PatternSign.TheVariants.{Bare, Plain}
 
 -- the signs of a pattern's characters: a backslash makes the character after it plain; a backslash
 -- with none after it is itself

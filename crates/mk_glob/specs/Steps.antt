@@ -2,7 +2,7 @@
 use Rattle.std.specs.Prelude.{◌≡◌, ◌⊎◌, ℕ, ◌≤◌, ◌+◌, Bool, true, false, List, [], ◌∷◌, ◌++◌, Option, None, MatchOption}
 use Rattle.std.specs.Str.{chars}
 use Rattle.general_facts.specs.Ascii.{star}
-use Rattle.mk_glob.specs.declared.signs.PatternSign.{PatternSign}
+use Rattle.mk_glob.specs.declared.pattern_signs.PatternSign.{PatternSign}
 use Rattle.mk_glob.specs.declared.matcher.Rest.{Rest}
 use Rattle.mk_glob.specs.declared.matcher.Step.{Step}
 use Rattle.mk_glob.specs.declared.matcher.Step.TheVariants.{Over, Run, One, Refused}

@@ -3,7 +3,7 @@ ghost use Rattle.std.specs.Prelude.{◌≡◌};
 ghost use Rattle.mk_glob.specs.Items.{is_within};
 ghost use Rattle.mk_glob.specs.Brackets.{EndsRange, TestsMembers, TestsBracket};
 
-use crate::signs::first_sign;
+use crate::pattern_signs::first_sign;
 
 /// Whether `c` is one of the characters from `low` up to `high`.
 fn is_within(low: char, high: char, c: char) -> bool

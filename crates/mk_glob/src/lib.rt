@@ -4,7 +4,7 @@
 mod brackets;
 mod laws;
 mod matcher;
-mod signs;
+mod pattern_signs;
 
 pub use laws::fits_where_cut;
 pub use matcher::glob;

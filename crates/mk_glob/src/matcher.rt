@@ -7,7 +7,7 @@ ghost use Rattle.mk_glob.specs.Matcher.{Fits, fits};
 ghost use Rattle.mk_glob.specs.Steps.{widths, Finds, TellsOne};
 
 use crate::brackets::bracket_allows;
-use crate::signs::{PatternSign, first_char, first_sign};
+use crate::pattern_signs::{PatternSign, first_char, first_sign};
 
 /// What is left of a pattern and of a word.
 #[derive(Clone, Copy)]

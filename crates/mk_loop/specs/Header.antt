@@ -11,7 +11,7 @@ use Rattle.mk_base.specs.declared.faults.FaultKind.{FaultKind}
 use Rattle.mk_base.specs.declared.faults.FaultKind.TheVariants as kinds
 use Rattle.mk_base.specs.Meter.{Meter}
 use Rattle.mk_base.specs.Outcome.{Work, give, fail, ◌>>=◌}
-use Rattle.mk_text.specs.declared.span.Span.{Span}
+use Rattle.mk_text.specs.declared.word_spans.Span.{Span}
 use Rattle.mk_text.specs.Words.{words_of, word_spans, span_text}
 use Rattle.mk_env.specs.Texts.{Variables}
 use Rattle.mk_env.specs.Expansion.{expand}

@@ -6,8 +6,8 @@ mod body_line;
 mod header;
 mod iterations;
 mod joined_text;
-mod names;
 mod pass;
+mod reference_names;
 mod scopes;
 
 pub use body_line::put_words;

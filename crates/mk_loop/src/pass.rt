@@ -12,7 +12,7 @@ ghost use Rattle.mk_loop.specs.Passes.{KeepsMark, BeginsChange, PutsWord, Finish
 
 use crate::iterations::Iteration;
 use crate::joined_text::Joined;
-use crate::names::name_end;
+use crate::reference_names::name_end;
 use crate::scopes::word_in;
 use mk_base::{Budget, FaultKind, PureStop};
 use mk_env::{Env, modify};

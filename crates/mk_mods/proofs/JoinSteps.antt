@@ -5,7 +5,7 @@ use Rattle.std.specs.List.{join_with_byte}
 use Rattle.std.proofs.lemmas.List.{drop_more, drop-map}
 use mathlib.Core.Bool.{beq}
 use Rattle.mk_mods.specs.Applied.{keeps_word}
-use Rattle.mk_text.specs.declared.span.Span.{Span}
+use Rattle.mk_text.specs.declared.word_spans.Span.{Span}
 use Rattle.mk_text.specs.Words.{span_text}
 use Rattle.mk_text.specs.declared.limits.TextFault.{TextFault}
 use Rattle.mk_text.specs.declared.limits.TextFault.TheVariants as faults

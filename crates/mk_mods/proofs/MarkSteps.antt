@@ -1,8 +1,8 @@
 -- Texts that have no marks.
 use Rattle.std.proofs.Common.{◌≡◌, ℕ, ◌<◌, List, [], ◌∷◌, length, None, refl, ap, arith, length-drop}
 use Rattle.std.specs.List.{flat_map}
-use Rattle.mk_ref.specs.declared.piece.PiecesFault.{PiecesFault}
-use Rattle.mk_ref.specs.declared.piece.PiecesFault.TheVariants as faults
+use Rattle.mk_ref.specs.declared.pieces_of_text.PiecesFault.{PiecesFault}
+use Rattle.mk_ref.specs.declared.pieces_of_text.PiecesFault.TheVariants as faults
 use Rattle.mk_ref.specs.Units.{units_of, left_of}
 use Rattle.mk_ref.specs.Pieces.{pieces_of}
 use Rattle.mk_ref.specs.Places.{IsFaultOf}

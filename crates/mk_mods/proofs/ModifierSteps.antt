@@ -3,8 +3,8 @@ use Rattle.std.proofs.Common.{◌≡◌, ℕ, zero, suc, ◌<◌, ◌≤◌, ◌
 use Rattle.std.proofs.lemmas.Bool.{cond-true}
 use Rattle.mk_mods.specs.Actions.{Action}
 use Rattle.mk_text.specs.declared.profile.Profile.{Profile}
-use Rattle.mk_mods.specs.declared.mods.ModsFault.{ModsFault}
-use Rattle.mk_mods.specs.declared.mods.ModsFault.TheVariants as faults
+use Rattle.mk_mods.specs.declared.modifier_lists.ModsFault.{ModsFault}
+use Rattle.mk_mods.specs.declared.modifier_lists.ModsFault.TheVariants as faults
 use Rattle.mk_mods.specs.Marks.{TextMark, marks_of, is_char}
 use Rattle.mk_mods.specs.Views.{IsUnread}
 use Rattle.std.specs.Option.{option_and_then}

@@ -6,18 +6,18 @@ use Rattle.std.specs.List.{flat_map}
 use Rattle.std.specs.declared.alloc.Global.{Global}
 use Rattle.mk_mods.specs.declared.modifiers.Modifier.{Modifier}
 use Rattle.mk_mods.specs.declared.modifiers.Part.{Part}
-use Rattle.mk_mods.specs.declared.mods.Mods.{Mods}
+use Rattle.mk_mods.specs.declared.modifier_lists.Mods.{Mods}
 use Rattle.mk_mods.specs.declared.word_maps.WordChange.{WordChange}
 use Rattle.mk_mods.specs.declared.word_maps.WordChange.TheVariants as changes
 use Rattle.mk_mods.specs.WordChanges.{word_change, with_suffix}
 use Rattle.mk_mods.specs.declared.marks.Mark.{Mark}
 use Rattle.mk_mods.specs.declared.marks.Mark.TheVariants as marks
-use Rattle.mk_mods.specs.declared.signs.SubstitutionSign.{SubstitutionSign}
-use Rattle.mk_mods.specs.declared.signs.SubstitutionSign.TheVariants as signs
-use Rattle.mk_mods.specs.declared.mods.ModsFault.{ModsFault}
-use Rattle.mk_mods.specs.declared.mods.ModsFault.TheVariants as faults
-use Rattle.mk_ref.specs.declared.piece.PiecesFault.{PiecesFault}
-use Rattle.mk_ref.specs.declared.piece.PiecesFault.TheVariants as pieces_faults
+use Rattle.mk_mods.specs.declared.substitution_signs.SubstitutionSign.{SubstitutionSign}
+use Rattle.mk_mods.specs.declared.substitution_signs.SubstitutionSign.TheVariants as signs
+use Rattle.mk_mods.specs.declared.modifier_lists.ModsFault.{ModsFault}
+use Rattle.mk_mods.specs.declared.modifier_lists.ModsFault.TheVariants as faults
+use Rattle.mk_ref.specs.declared.pieces_of_text.PiecesFault.{PiecesFault}
+use Rattle.mk_ref.specs.declared.pieces_of_text.PiecesFault.TheVariants as pieces_faults
 use Rattle.mk_mods.specs.Actions.{Action, Symbol, Byte, action_of, symbols_of}
 use Rattle.mk_mods.specs.Marks.{TextMark, Char, EscapedDollar, Written, mark_source}
 use Rattle.mk_mods.specs.Signs.{TextSign, Plain, Bare, Inner, escaped, sign_at, sign_symbols}

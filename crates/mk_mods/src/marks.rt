@@ -5,7 +5,7 @@ ghost use Rattle.mk_ref.specs.Places.{piece_in_text, IsPieceIn};
 ghost use Rattle.mk_mods.specs.Marks.{marks_of, piece_marks, is_char, mark_source, Char};
 ghost use Rattle.mk_mods.specs.Views.{shown_mark, IsUnread, AddsText, AddsMarks};
 
-use crate::mods::ModsFault;
+use crate::modifier_lists::ModsFault;
 use mk_ref::{Piece, pieces};
 use std::alloc::{AllocError, Global};
 

@@ -4,7 +4,7 @@ ghost use Rattle.mk_mods.specs.Applied.{applied};
 ghost use Rattle.mk_mods.specs.Joined.{joined};
 ghost use Rattle.mk_mods.specs.Made.{MakesText, FailsTooLong, MakesValue, FailsUnmade, kept_words, changed_words};
 
-use crate::joined_words::add_word;
+use crate::bounded_words::add_word;
 use crate::modifiers::Modifier;
 use crate::substitution::join_substituted;
 use crate::word_maps::{WordChange, add_changed};

@@ -6,7 +6,7 @@ ghost use Rattle.mk_mods.specs.Substituted.{text_of, somewhere_replaced};
 ghost use Rattle.mk_mods.specs.Made.{MakesText, FailsTooLong, MakesValue, FailsUnmade, MakesWord, FailsOverlong};
 ghost use Rattle.mk_mods.specs.Made.{word_replaced, words_replaced, value_replaced, value_substituted, all_from_first};
 
-use crate::joined_words::add_word;
+use crate::bounded_words::add_word;
 use crate::modifiers::{Part, Substitution};
 use mk_text::{TextFault, add_text, words};
 use std::alloc::Global;

@@ -5,7 +5,7 @@ ghost use Rattle.mk_mods.specs.WordChanges.{word_change, with_suffix};
 ghost use Rattle.mk_mods.specs.Views.{changed_word};
 ghost use Rattle.mk_mods.specs.declared.modifiers.WordMap.TheVariants as maps;
 
-use crate::joined_words::add_word;
+use crate::bounded_words::add_word;
 use crate::modifiers::WordMap;
 use mk_text::{TEXT_LIMIT, TextFault, add_text};
 use std::alloc::Global;

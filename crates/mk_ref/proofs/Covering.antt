@@ -5,7 +5,7 @@ use Rattle.mk_ref.specs.Units.{TextUnit, Byte, EscapedDollar, Reference, source,
 use Rattle.mk_ref.proofs.UnitSteps.{units-text}
 use Rattle.mk_ref.specs.Pieces.{TextPiece, LiteralPiece, EscapedDollarPiece, ReferencePiece, with_byte, pieces_of}
 use Rattle.std.proofs.lemmas.List.{drop_more, drop-map}
-use Rattle.mk_ref.specs.declared.piece.Piece.{Piece}
+use Rattle.mk_ref.specs.declared.pieces_of_text.Piece.{Piece}
 use Rattle.mk_ref.specs.Places.{piece_in_text, IsUnclosedAt}
 use Rattle.mk_ref.specs.Outside.{dollars, covered, covered_piece, outside}
 use Rattle.mk_ref.proofs.Alone.{cut-front}

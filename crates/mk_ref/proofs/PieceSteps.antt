@@ -7,7 +7,7 @@ use Rattle.mk_text.specs.Words.{span_text, IsSpanOf}
 use Rattle.mk_ref.specs.declared.opening.Opening.{Opening}
 use Rattle.mk_ref.specs.declared.opening.Opening.TheVariants.{Doubled, Letter, Marked}
 use Rattle.mk_ref.specs.declared.ends.Inside.{Inside}
-use Rattle.mk_ref.specs.declared.piece.Piece.TheVariants as v
+use Rattle.mk_ref.specs.declared.pieces_of_text.Piece.TheVariants as v
 use Rattle.mk_ref.specs.Units.{TextUnit, EscapedDollar, Reference, source, sources, before_colon, opening_of, marked_reference, marked_first, up_to_mark, first_unit}
 use Rattle.mk_ref.specs.Ends.{IsInside}
 use Rattle.mk_ref.specs.Pieces.{ReferencePiece}

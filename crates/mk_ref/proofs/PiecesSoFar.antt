@@ -7,8 +7,8 @@ use Rattle.std.proofs.lemmas.List.Elements.{All-nil, All-cons, All-append}
 use Rattle.std.proofs.Math.Seq.{drop-length}
 use Rattle.std.proofs.lemmas.Str.{IsCharBoundary-start, IsCharBoundary-end}
 use Rattle.general_facts.specs.Lists.{slice_range-one}
-use Rattle.mk_ref.specs.declared.piece.Piece.{Piece}
-use Rattle.mk_ref.specs.declared.piece.Piece.TheVariants as v
+use Rattle.mk_ref.specs.declared.pieces_of_text.Piece.{Piece}
+use Rattle.mk_ref.specs.declared.pieces_of_text.Piece.TheVariants as v
 use Rattle.mk_ref.specs.Units.{TextUnit, Byte, EscapedDollar, Reference, opening_of, unit_before, first_unit, cut_on, cut, units_of, left_of}
 use Rattle.mk_ref.specs.Pieces.{TextPiece, LiteralPiece, with_byte, pieces_of}
 use Rattle.mk_ref.specs.Places.{piece_in_text, span_of_piece, FollowFrom, IsPieceIn, IsUnclosedAt}

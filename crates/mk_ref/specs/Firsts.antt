@@ -2,9 +2,9 @@
 use Rattle.std.specs.Prelude.{◌≡◌, ◌<◌, ◌≤◌, ℕ, ◌+◌, nat_lt, List, [], ◌∷◌, length, drop, Option, Some, None}
 use Rattle.std.specs.Prelude.{option_map, unwrap_or, if◌then◌else◌}
 use Rattle.mk_ref.specs.declared.ends.Inside.{Inside}
-use Rattle.mk_ref.specs.declared.piece.Reference.{Reference}
-use Rattle.mk_ref.specs.declared.piece.Piece.{Piece}
-use Rattle.mk_ref.specs.declared.piece.Piece.TheVariants as v
+use Rattle.mk_ref.specs.declared.pieces_of_text.Reference.{Reference}
+use Rattle.mk_ref.specs.declared.pieces_of_text.Piece.{Piece}
+use Rattle.mk_ref.specs.declared.pieces_of_text.Piece.TheVariants as v
 use Rattle.mk_ref.specs.Units.{TextUnit, Byte, EscapedDollar, Reference as ReferenceUnit, first_unit}
 use Rattle.mk_ref.specs.Pieces.{TextPiece, EscapedDollarPiece, ReferencePiece}
 use Rattle.mk_ref.specs.Places.{piece_in_text, span_of_piece, IsPieceIn}

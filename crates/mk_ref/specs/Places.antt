@@ -1,13 +1,13 @@
 -- Pieces as places in their text.
 use Rattle.std.specs.Prelude.{◌≡◌, ◌⊎◌, ◌<◌, ℕ, ◌+◌, List, [], ◌∷◌, length, drop, Option, Some, None, option_map, ⊤}
 use Rattle.std.specs.Option.{IfSome}
-use Rattle.mk_text.specs.declared.span.Span.{Span}
+use Rattle.mk_text.specs.declared.word_spans.Span.{Span}
 use Rattle.mk_text.specs.Words.{span_text, IsSpanOf}
-use Rattle.mk_ref.specs.declared.piece.Reference.{Reference}
-use Rattle.mk_ref.specs.declared.piece.Piece.{Piece}
-use Rattle.mk_ref.specs.declared.piece.Piece.TheVariants as v
-use Rattle.mk_ref.specs.declared.piece.PiecesFault.{PiecesFault}
-use Rattle.mk_ref.specs.declared.piece.PiecesFault.TheVariants as f
+use Rattle.mk_ref.specs.declared.pieces_of_text.Reference.{Reference}
+use Rattle.mk_ref.specs.declared.pieces_of_text.Piece.{Piece}
+use Rattle.mk_ref.specs.declared.pieces_of_text.Piece.TheVariants as v
+use Rattle.mk_ref.specs.declared.pieces_of_text.PiecesFault.{PiecesFault}
+use Rattle.mk_ref.specs.declared.pieces_of_text.PiecesFault.TheVariants as f
 use Rattle.mk_ref.specs.Units.{left_of}
 use Rattle.mk_ref.specs.Pieces.{TextPiece, LiteralPiece, EscapedDollarPiece, ReferencePiece}
 

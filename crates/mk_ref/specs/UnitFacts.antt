@@ -4,8 +4,8 @@ use Rattle.std.proofs.Common.{ℕ, List, [], ◌∷◌, ◌++◌, length, option
 use Rattle.std.proofs.lemmas.Bool.Decides.{eqb_tells}
 use Rattle.std.proofs.lemmas.List.{length-drop}
 use Rattle.general_facts.specs.Ascii.{dollar}
-use Rattle.mk_ref.specs.declared.piece.PiecesFault.{PiecesFault}
-use Rattle.mk_ref.specs.declared.piece.PiecesFault.TheVariants as faults
+use Rattle.mk_ref.specs.declared.pieces_of_text.PiecesFault.{PiecesFault}
+use Rattle.mk_ref.specs.declared.pieces_of_text.PiecesFault.TheVariants as faults
 use Rattle.mk_ref.specs.Laws.{with_colon}
 use Rattle.mk_ref.specs.Places.{IsUnclosedAt, IsFaultOf}
 use Rattle.mk_ref.specs.Units.{TextUnit, Byte, EscapedDollar, Reference, sources, before_colon, following_colon, left_of}

@@ -5,7 +5,7 @@ mod ends;
 mod laws;
 mod opening;
 mod outside_text;
-mod piece;
+mod pieces_of_text;
 
 pub use laws::{
     cut_goes_on, dollars_alone_part_texts, insides_are_cut_alone, only_the_unclosed_is_left,
@@ -14,4 +14,4 @@ pub use laws::{
 };
 pub use opening::{Opening, opening_at};
 pub use outside_text::outside;
-pub use piece::{Piece, PiecesFault, Reference, pieces};
+pub use pieces_of_text::{Piece, PiecesFault, Reference, pieces};

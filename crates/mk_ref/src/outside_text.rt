@@ -4,7 +4,7 @@ ghost use Rattle.std.specs.List.{flat_map};
 ghost use Rattle.mk_ref.specs.Places.{piece_in_text, IsPieceIn, IsUnclosedAt};
 ghost use Rattle.mk_ref.specs.Outside.{outside, dollars, covered_piece};
 
-use crate::piece::{Piece, PiecesFault, pieces};
+use crate::pieces_of_text::{Piece, PiecesFault, pieces};
 use std::alloc::{AllocError, Global};
 
 /// The bytes of `text`, with a dollar in place of each byte of references and pairs. A reference that

@@ -144,8 +144,11 @@ advance files makefile (Later site (ElseBranch block)) frames s = give (s, Lines
 advance files makefile (Iterations site line body []) frames s = give (s, frames)
 advance files makefile (Iterations site line body (iteration ∷ later)) frames s =
     (works_in files makefile site).begins (numbered_line line)
-    >>= λ _. give (s, Lines (record site { loops = inside_iteration site.loops iteration }) body
-    ∷ Iterations site line body later ∷ frames)
+    >>= λ _. give (
+      s,
+      Lines (record site { loops = inside_iteration site.loops iteration }) body
+          ∷ Iterations site line body later ∷ frames,
+    )
 advance files makefile (Modules site line) frames s =
     blamed (place_at files makefile site) line (quietly (module_words s.variables))
     >>= λ words. give (s, Searches site line words ∷ frames)

@@ -2,15 +2,14 @@
 #![tactic(auto)]
 
 mod blank_lines;
-mod evaluation;
 mod frames;
-mod heads;
 mod laws;
 mod machine;
+mod machine_steps;
 mod searches;
 mod sites;
-mod steps;
+mod whole_evaluation;
 
-pub use evaluation::{evaluate, evaluate_with};
 pub use laws::{asked_as_spent, asked_comes_first};
 pub use machine::{Machine, Turned};
+pub use whole_evaluation::{evaluate, evaluate_with};

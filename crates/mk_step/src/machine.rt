@@ -6,7 +6,7 @@ ghost use Rattle.mk_step.specs.Turn.{IsNew, IsWithinEach, stopped};
 ghost use Rattle.mk_step.specs.Steps.{RunsFor, BeginsAmong, outcome_of};
 
 use crate::frames::{Frame, next_frame};
-use crate::steps::lines_in;
+use crate::machine_steps::lines_in;
 use mk_base::{Budget, Fault, FaultKind, Stop, UNITS};
 use mk_eval::{EvalState, Evaluated, Failed, Included, Kind, Parses, start};
 use mk_files::{Files, look_read};

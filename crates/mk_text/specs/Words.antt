@@ -3,7 +3,7 @@
 use Rattle.std.specs.Prelude.{◌≤◌, ℕ, ◌+◌, ◌-◌, nat_lt, List, [], ◌∷◌, length, take, drop, filter}
 use Rattle.std.specs.List.{slice_split}
 use Rattle.std.specs.Str.{IsCharBoundary}
-use Rattle.mk_text.specs.declared.span.Span.{Span}
+use Rattle.mk_text.specs.declared.word_spans.Span.{Span}
 use Rattle.mk_text.specs.Blanks.{is_blank}
 
 -- the words: what is between the blanks, if that isn't empty

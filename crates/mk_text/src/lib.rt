@@ -6,10 +6,10 @@ mod comments;
 mod limits;
 mod lines;
 mod profile;
-mod span;
+mod word_spans;
 
 pub use blanks::{is_blank, skip_blanks, trim_blanks};
 pub use limits::{TEXT_LIMIT, TextFault, add_text, text_limit};
 pub use lines::{Logical, logical_lines};
 pub use profile::Profile;
-pub use span::{Span, words};
+pub use word_spans::{Span, words};

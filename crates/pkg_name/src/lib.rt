@@ -3,8 +3,8 @@
 
 mod laws;
 mod name;
-mod order;
 mod version;
+mod version_order;
 
 pub use laws::{
     any_two_compare, equal_as_texts, lower_than_lower, name_is_its_text, never_both_lower,

@@ -11,7 +11,7 @@ ghost use Rattle.pkg_name.specs.Order.{version_cmp};
 ghost use Rattle.pkg_name.specs.OrderLaws.{version_cmp_total, version_cmp_ties, version_po};
 ghost use Rattle.pkg_name.specs.declared.version.VersionFault.TheVariants.{Memory};
 
-use crate::order::compare_versions;
+use crate::version_order::compare_versions;
 use refusals::OutOfMemory;
 use std::alloc::{AllocError, Global};
 use std::cmp::Ordering;

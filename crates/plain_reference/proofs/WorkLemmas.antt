@@ -3,7 +3,8 @@ use Rattle.std.proofs.Common.{◌≡◌, ◌∙◌, sym, ap, ap₂, refl, ℕ, �
 use Rattle.std.specs.List.{sum_by, filter}
 use Rattle.text_parts.specs.Order.{in_order}
 use Rattle.mk_paths.specs.World.{World}
-use Rattle.port_index.specs.PathOutcomes.{PathOutcome, Absent, Faulty, Port, BadPort, Lists, BadList, FlavoredList, Other, Finding, counted, finding_at, outcome_at, cost_at}
+use Rattle.turn_amounts.specs.Spent.{counted}
+use Rattle.port_index.specs.PathOutcomes.{PathOutcome, Absent, Faulty, Port, BadPort, Lists, BadList, FlavoredList, Other, Finding, finding_at, outcome_at, cost_at}
 use Rattle.port_index.specs.Efforts.{evaluations_at, evaluations_for, lacking}
 use Rattle.port_index.specs.FilledRows.{is_one_of, Fills}
 use Rattle.port_index.proofs.Filled.{Entries}

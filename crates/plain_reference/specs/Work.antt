@@ -3,11 +3,12 @@ use Rattle.std.specs.Prelude.{◌≡◌, ℕ, ◌+◌, List, length, Result, IfO
 use Rattle.mk_paths.specs.World.{World}
 use Rattle.plain_reference.specs.declared.effort.Effort.{Effort}
 use Rattle.port_index.specs.Efforts.{evaluations_for, evaluations_over, cost_over}
-use Rattle.port_index.specs.PathOutcomes.{Finding, counted}
+use Rattle.turn_amounts.specs.Spent.{counted}
+use Rattle.port_index.specs.PathOutcomes.{Finding}
 use Rattle.ports_http.specs.Messages.{ReplyMessage}
 use Rattle.plain_service.specs.Answers.{port_reply_to}
 use Rattle.plain_service.specs.AnswerCosts.{cost_for, rests_for}
-use Rattle.plain_service.specs.declared.port_questions.PortQuestion.{PortQuestion}
+use Rattle.plain_service.specs.declared.port_routes.PortQuestion.{PortQuestion}
 use Rattle.plain_service.specs.declared.questions.Question.{Question}
 use Rattle.plain_service.specs.declared.questions.Question.TheVariants.{OfPort}
 

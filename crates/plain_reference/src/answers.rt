@@ -9,9 +9,9 @@ use crate::index::index_files;
 use crate::path_outcomes::outcome_of;
 use mk_files::Listing;
 use mk_paths::{FilesFault, Settings, find};
-use ports_http::Reply;
-use port_index::makefiles_are_evaluated;
 use plain_service::{PortQuestion, Prepared, Question, no_port};
+use port_index::makefiles_are_evaluated;
+use ports_http::Reply;
 use std::alloc::Global;
 
 /// The answer to a question over the world of these files and settings: its reply, and what is to be changed. It fails if

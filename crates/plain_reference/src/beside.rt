@@ -6,8 +6,8 @@ ghost use Rattle.port_index.specs.Seen.{AddsPath, AddsTexts, entries_in, row_say
 ghost use Rattle.plain_reference.specs.Needed.{GivesBeside};
 
 use port_deps::read_wanted;
-use port_rules::Depend;
 use port_index::{MemoryRows, Row};
+use port_rules::Depend;
 use std::alloc::{AllocError, Global};
 
 /// The paths on which the index depends beside the listed ones, by the rows of these: those that the items of ports

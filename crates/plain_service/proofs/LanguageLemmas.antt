@@ -21,10 +21,10 @@ use Rattle.plain_service.specs.Requests.{PlainRequest, Answer, reply_alone}
 use Rattle.plain_service.specs.SettingAnswers.{set_trees, set_text}
 use Rattle.pkg_spec.specs.Alternatives.{spec_of}
 use Rattle.ports_query.specs.Conditions.{ConditionValue, query_conditions}
-use Rattle.plain_service.specs.declared.dependencies.Direction.TheVariants.{Dependencies, Dependents}
+use Rattle.plain_service.specs.declared.dependency_routes.Direction.TheVariants.{Dependencies, Dependents}
 use Rattle.plain_service.specs.declared.questions.Question.{Question}
 use Rattle.plain_service.specs.declared.questions.Question.TheVariants.{Settled, OfPort, OfIndex}
-use Rattle.plain_service.specs.declared.port_questions.PortQuestion.TheVariants.{Variable, Record}
+use Rattle.plain_service.specs.declared.port_routes.PortQuestion.TheVariants.{Variable, Record}
 use Rattle.plain_service.specs.declared.index_questions.IndexQuestion.TheVariants as index
 use Rattle.plain_service.specs.IndexRoutes.{question_of_query, bad_spec}
 use Rattle.plain_service.specs.PathParameter.{path_in}

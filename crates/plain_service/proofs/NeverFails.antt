@@ -24,9 +24,9 @@ use Rattle.plain_service.specs.Parameters.{parameter, optional}
 use Rattle.plain_service.specs.Subpackages.{has_named}
 use Rattle.plain_service.specs.IndexRoutes.{bad_spec, depth_of, dependencies_body_of, dependencies_by, reply_to, question_on, question_of as dependency_asked, question_of_query}
 use Rattle.plain_service.specs.PathParameter.{path_or_refusal, path_of_parameter, path_in}
-use Rattle.plain_service.specs.declared.dependencies.Direction.{Direction}
-use Rattle.plain_service.specs.declared.dependencies.Direction.TheVariants.{Dependencies, Dependents}
-use Rattle.plain_service.specs.declared.dependencies.DependencyQuestion.{DependencyQuestion}
+use Rattle.plain_service.specs.declared.dependency_routes.Direction.{Direction}
+use Rattle.plain_service.specs.declared.dependency_routes.Direction.TheVariants.{Dependencies, Dependents}
+use Rattle.plain_service.specs.declared.dependency_routes.DependencyQuestion.{DependencyQuestion}
 use Rattle.plain_service.specs.declared.depth.Depth.{Depth}
 use Rattle.ports_query.specs.Conditions.{ConditionValue, query_conditions}
 use Rattle.ports_query.specs.Kinds.{kinds_of}
@@ -50,10 +50,10 @@ use Rattle.plain_service.specs.Answers.{content_shown, file_asked, file_answer, 
 use Rattle.plain_service.specs.Plain.{plain}
 use Rattle.plain_service.specs.declared.questions.Question.{Question}
 use Rattle.plain_service.specs.declared.questions.Question.TheVariants.{Settled, OfFile, OfPort, OfIndex}
-use Rattle.plain_service.specs.declared.files.FileQuestion.{FileQuestion}
-use Rattle.plain_service.specs.declared.files.FileQuestion.TheVariants.{Show, Remove}
-use Rattle.plain_service.specs.declared.port_questions.PortQuestion.{PortQuestion}
-use Rattle.plain_service.specs.declared.port_questions.PortQuestion.TheVariants.{Variable, Record}
+use Rattle.plain_service.specs.declared.file_route.FileQuestion.{FileQuestion}
+use Rattle.plain_service.specs.declared.file_route.FileQuestion.TheVariants.{Show, Remove}
+use Rattle.plain_service.specs.declared.port_routes.PortQuestion.{PortQuestion}
+use Rattle.plain_service.specs.declared.port_routes.PortQuestion.TheVariants.{Variable, Record}
 use Rattle.plain_service.specs.declared.index_questions.IndexQuestion.{IndexQuestion}
 use Rattle.plain_service.specs.declared.index_questions.IndexQuestion.TheVariants as index
 use Rattle.plain_service.specs.declared.change.Change.{Change}

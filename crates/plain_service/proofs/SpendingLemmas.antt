@@ -1,6 +1,6 @@
 -- What may be spent is bounded.
 use Rattle.std.proofs.Common.{◌≡◌, ℕ, ◌≤◌, ◌-◌, ◌⊎◌, inl, inr, ap, arith}
-use Rattle.port_index.specs.declared.spent.Spent.{Spent}
+use Rattle.turn_amounts.specs.declared.spent.Spent.{Spent}
 use Rattle.plain_service.specs.declared.questions.Question.TheVariants.{Settled, OfFile, OfPort, OfIndex}
 use Rattle.plain_service.specs.Spent.{SpendsNoMore, ChecksNoMore, SpendsAllUnchecked}
 

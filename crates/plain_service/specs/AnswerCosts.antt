@@ -20,8 +20,8 @@ use Rattle.port_index.specs.Index.{needed_paths}
 use Rattle.port_index.specs.Pairs.{Pair, pair_in, pairs_at}
 use Rattle.plain_service.specs.declared.questions.Question.{Question}
 use Rattle.plain_service.specs.declared.questions.Question.TheVariants.{Settled, OfFile, OfPort, OfIndex}
-use Rattle.plain_service.specs.declared.port_questions.PortQuestion.{PortQuestion}
-use Rattle.plain_service.specs.declared.port_questions.PortQuestion.TheVariants.{Variable, Record}
+use Rattle.plain_service.specs.declared.port_routes.PortQuestion.{PortQuestion}
+use Rattle.plain_service.specs.declared.port_routes.PortQuestion.TheVariants.{Variable, Record}
 use Rattle.plain_service.specs.Requests.{PlainRequest}
 use Rattle.plain_service.specs.Questions.{question_of}
 use Rattle.plain_service.specs.Variables.{VariableValue}

@@ -8,12 +8,12 @@ use Rattle.ports_http.specs.Messages.{ReplyMessage}
 use Rattle.plain_service.specs.declared.change.Change.TheVariants.{RemoveFile}
 use Rattle.plain_service.specs.declared.questions.Question.{Question}
 use Rattle.plain_service.specs.declared.questions.Question.TheVariants.{Settled, OfFile, OfPort, OfIndex}
-use Rattle.plain_service.specs.declared.files.FileQuestion.{FileQuestion}
-use Rattle.plain_service.specs.declared.files.FileQuestion.TheVariants.{Show, Remove}
-use Rattle.plain_service.specs.declared.port_questions.PortQuestion.{PortQuestion}
-use Rattle.plain_service.specs.declared.port_questions.PortQuestion.TheVariants.{Variable, Record}
-use Rattle.plain_service.specs.declared.dependencies.Direction.{Direction}
-use Rattle.plain_service.specs.declared.dependencies.Direction.TheVariants.{Dependencies, Dependents}
+use Rattle.plain_service.specs.declared.file_route.FileQuestion.{FileQuestion}
+use Rattle.plain_service.specs.declared.file_route.FileQuestion.TheVariants.{Show, Remove}
+use Rattle.plain_service.specs.declared.port_routes.PortQuestion.{PortQuestion}
+use Rattle.plain_service.specs.declared.port_routes.PortQuestion.TheVariants.{Variable, Record}
+use Rattle.plain_service.specs.declared.dependency_routes.Direction.{Direction}
+use Rattle.plain_service.specs.declared.dependency_routes.Direction.TheVariants.{Dependencies, Dependents}
 use Rattle.plain_service.specs.declared.depth.Depth.{Depth}
 use Rattle.plain_service.specs.declared.depth.Depth.TheVariants.{Direct, All}
 use Rattle.plain_service.specs.declared.index_questions.IndexQuestion.{IndexQuestion}

@@ -16,9 +16,9 @@ use Rattle.ports_query.specs.Reach.{reached_of, reaching_of}
 use Rattle.ports_query.specs.declared.kinds.Kinds.{Kinds}
 use Rattle.serde_json.specs.Data.{Data}
 use Rattle.ports_http.specs.Messages.{ReplyMessage}
-use Rattle.plain_service.specs.declared.dependencies.Direction.{Direction}
-use Rattle.plain_service.specs.declared.dependencies.Direction.TheVariants.{Dependencies, Dependents}
-use Rattle.plain_service.specs.declared.dependencies.DependencyQuestion.{DependencyQuestion}
+use Rattle.plain_service.specs.declared.dependency_routes.Direction.{Direction}
+use Rattle.plain_service.specs.declared.dependency_routes.Direction.TheVariants.{Dependencies, Dependents}
+use Rattle.plain_service.specs.declared.dependency_routes.DependencyQuestion.{DependencyQuestion}
 use Rattle.plain_service.specs.declared.depth.Depth.{Depth}
 use Rattle.plain_service.specs.declared.depth.Depth.TheVariants.{Direct, All}
 use Rattle.plain_service.specs.Parameters.{optional}

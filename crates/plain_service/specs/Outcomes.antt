@@ -10,7 +10,7 @@ use Rattle.port_index.specs.declared.known_index.KnownIndex.{KnownIndex}
 use Rattle.serde_json.specs.Data.{Data}
 use Rattle.serde_json.specs.Written.{compact_text}
 use Rattle.plain_service.specs.declared.change.Prepared.{Prepared}
-use Rattle.plain_service.specs.declared.dependencies.DependencyQuestion.{DependencyQuestion}
+use Rattle.plain_service.specs.declared.dependency_routes.DependencyQuestion.{DependencyQuestion}
 use Rattle.plain_service.specs.IndexRoutes.{dependencies_body_of}
 use Rattle.plain_service.specs.ListBodies.{list_body}
 use Rattle.plain_service.specs.Requests.{Answer}

@@ -11,12 +11,12 @@ use Rattle.ports_http.specs.declared.method.Method.{Method}
 use Rattle.ports_http.specs.declared.method.Method.TheVariants.{Get, Put, Delete}
 use Rattle.ports_http.specs.Messages.{ReplyMessage}
 use Rattle.plain_service.specs.declared.change.Change.TheVariants.{PutFile}
-use Rattle.plain_service.specs.declared.dependencies.Direction.{Direction}
-use Rattle.plain_service.specs.declared.dependencies.Direction.TheVariants.{Dependencies, Dependents}
+use Rattle.plain_service.specs.declared.dependency_routes.Direction.{Direction}
+use Rattle.plain_service.specs.declared.dependency_routes.Direction.TheVariants.{Dependencies, Dependents}
 use Rattle.plain_service.specs.declared.questions.Question.{Question}
 use Rattle.plain_service.specs.declared.questions.Question.TheVariants.{Settled, OfFile, OfPort, OfIndex}
-use Rattle.plain_service.specs.declared.files.FileQuestion.TheVariants.{Show, Remove}
-use Rattle.plain_service.specs.declared.port_questions.PortQuestion.TheVariants.{Variable, Record}
+use Rattle.plain_service.specs.declared.file_route.FileQuestion.TheVariants.{Show, Remove}
+use Rattle.plain_service.specs.declared.port_routes.PortQuestion.TheVariants.{Variable, Record}
 use Rattle.plain_service.specs.declared.index_questions.IndexQuestion.TheVariants as index
 use Rattle.plain_service.specs.declared.routes.Route.{Route}
 use Rattle.plain_service.specs.declared.routes.Route.TheVariants.{Deps, Faults, File, List as AllPackages, Match}

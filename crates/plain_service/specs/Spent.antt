@@ -1,8 +1,9 @@
 -- What is spent to answer a question over a world, if some evaluations and rows may be kept already.
 use Rattle.std.specs.Prelude.{◌≡◌, ◌≤◌, Bool, true, false, length}
 use Rattle.mk_paths.specs.World.{World}
-use Rattle.port_index.specs.declared.spent.Spent.{Spent}
-use Rattle.port_index.specs.Spent.{no_spending, ChecksFew, SpendsOn}
+use Rattle.turn_amounts.specs.declared.spent.Spent.{Spent}
+use Rattle.turn_amounts.specs.Spent.{no_spending}
+use Rattle.port_index.specs.Spent.{ChecksFew, SpendsOn}
 use Rattle.plain_service.specs.declared.questions.Question.{Question}
 use Rattle.plain_service.specs.declared.questions.Question.TheVariants.{Settled, OfFile, OfPort, OfIndex}
 use Rattle.plain_service.specs.AnswerCosts.{path_asked, pair_of, rests_for, port_cost_at, cost_for}

@@ -3,12 +3,12 @@ ghost use Rattle.std.specs.Prelude.{◌≡◌};
 ghost use Rattle.plain_service.specs.Answers.{follows_all, follows_edges, index_reply};
 ghost use Rattle.plain_service.specs.Outcomes.{RepliesOver};
 
-use crate::dependencies::{DependencyQuestion, Direction, dependency_reply};
+use crate::dependency_routes::{DependencyQuestion, Direction, dependency_reply};
 use crate::depth::Depth;
-use crate::lists::{faults_reply, list_reply, match_reply};
+use crate::list_routes::{faults_reply, list_reply, match_reply};
 use pkg_spec::Spec;
-use ports_http::Reply;
 use port_index::KnownIndex;
+use ports_http::Reply;
 use ports_query::Query;
 use std::alloc::{AllocError, Global};
 

@@ -4,20 +4,20 @@
 
 mod bodies;
 mod change;
-mod dependencies;
+mod dependency_routes;
 mod depth;
-mod files;
+mod file_route;
 mod index_questions;
 mod json_text;
 mod laws;
 mod list_bodies;
-mod lists;
+mod list_routes;
 mod parameters;
-mod paths;
+mod path_route;
 mod plain;
 mod port_bodies;
-mod port_questions;
-mod profiles;
+mod port_routes;
+mod profile_route;
 mod questions;
 mod replies;
 mod routes;
@@ -25,14 +25,14 @@ mod spaces;
 mod target;
 
 pub use change::{Change, Prepared};
-pub use dependencies::{DependencyQuestion, Direction};
+pub use dependency_routes::{DependencyQuestion, Direction};
 pub use depth::Depth;
-pub use files::FileQuestion;
+pub use file_route::FileQuestion;
 pub use index_questions::IndexQuestion;
 pub use laws::{
     never_answers_503, others_keep_the_profile, rests_on_each_once, spending_is_bounded,
 };
 pub use plain::Plain;
-pub use port_questions::{PortQuestion, VariableQuestion, no_port};
+pub use port_routes::{PortQuestion, VariableQuestion, no_port};
 pub use questions::Question;
 pub use replies::full;

@@ -5,9 +5,9 @@ ghost use Rattle.plain_service.specs.Replies.{refusal as refusal_of};
 ghost use Rattle.plain_service.specs.Outcomes.{IfMade};
 
 use crate::change::Prepared;
-use crate::files::FileQuestion;
+use crate::file_route::FileQuestion;
 use crate::index_questions::IndexQuestion;
-use crate::port_questions::PortQuestion;
+use crate::port_routes::PortQuestion;
 use crate::replies::refusal;
 use ports_http::{Reply, StatusCode};
 use std::alloc::{AllocError, Global};

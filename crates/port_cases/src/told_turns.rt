@@ -2,7 +2,7 @@
 
 use case_lines::Answer;
 use index_keep::Refreshed;
-use port_index::Spent;
+use turn_amounts::Spent;
 
 /// Adds what each of these turns told.
 pub(crate) fn tell_turns(answer: &mut Answer, turns: &[Refreshed]) {

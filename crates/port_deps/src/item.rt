@@ -1,76 +1,13 @@
 //! The items that a port depends on.
 ghost use Rattle.std.specs.Prelude.{◌≡◌, map, IfOk};
 ghost use Rattle.std.specs.Option.{option_copied};
-ghost use Rattle.pkg_spec.specs.NameSet.{admitted_by};
 ghost use Rattle.port_deps.specs.Items as items;
-ghost use Rattle.port_deps.specs.ItemText.{spec_or_any};
 
 use crate::item_text::read_wanted;
-use pkg_name::PkgName;
-use pkg_path::PkgPath;
-use pkg_spec::Spec;
+use crate::wanted::Wanted;
 use port_rules::{Depend, DependKind, PortRecord};
 use std::alloc::{AllocError, Global};
 use std::marker::Model;
-
-/// What an item asks for: the path of a port, and the packages of that port that will do.
-#[derive(Debug, Drop)]
-pub struct Wanted {
-    path: PkgPath,
-    /// A spec of these packages. Without one any package will do.
-    spec: Option<Spec>,
-}
-
-impl Model for Wanted {
-    ghost use Rattle.port_deps.specs.Items.{WantedValue};
-    ghost use Rattle.port_deps.specs.ItemText.{spec_or_any};
-
-    ghost Value = { WantedValue };
-
-    ghost view = { λ w. record { path = w.path; spec = spec_or_any w.spec } };
-}
-
-impl Wanted {
-    pub(crate) fn new(path: PkgPath, spec: Option<Spec>) -> Wanted
-        ensures { result ≡ record { path = path; spec = spec_or_any spec } }
-    {
-        Wanted { path, spec }
-    }
-
-    /// The path of the port, with its flavors and its subpackage.
-    pub fn path(&self) -> &PkgPath
-        ensures { result.now ≡ self.now.path }
-    {
-        &self.path
-    }
-
-    /// The path of the port, alone.
-    pub(crate) fn into_path(self) -> PkgPath
-        ensures { result ≡ self.path }
-    {
-        self.path
-    }
-
-    /// The text of a spec of the packages that will do: `STEM-*`, which admits any, if the item has none.
-    pub fn spec_text(&self) -> &str
-        ensures { result.now ≡ self.now.spec }
-    {
-        match &self.spec {
-            Some(spec) => spec.as_str(),
-            None => "STEM-*",
-        }
-    }
-
-    /// Whether a package of this name will do.
-    pub fn admits(&self, name: &PkgName) -> bool
-        ensures { result ≡ admitted_by self.now.spec name.now }
-    {
-        match &self.spec {
-            Some(spec) => spec.matches(name),
-            None => true,
-        }
-    }
-}
 
 /// An item of BUILD_DEPENDS, LIB_DEPENDS, RUN_DEPENDS or TEST_DEPENDS (bsd.port.mk(5)).
 #[derive(Debug, Drop)]

@@ -5,7 +5,7 @@ ghost use Rattle.std.specs.Option.{option_copied};
 ghost use Rattle.port_deps.specs.ItemText as item_text;
 ghost use Rattle.port_deps.specs.Seen.{parts_seen, BeginsWithNoColon};
 
-use crate::item::Wanted;
+use crate::wanted::Wanted;
 use pkg_path::PkgPath;
 use pkg_spec::{Spec, SpecFault};
 use std::alloc::{AllocError, Global};

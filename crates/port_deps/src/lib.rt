@@ -2,14 +2,16 @@
 //! dependencies that a ports tree has.
 #![tactic(auto)]
 
-mod edges;
+mod edge;
 mod item;
 mod item_text;
-mod lists;
+mod root;
 mod statuses;
+mod wanted;
 
-pub use edges::{Edge, resolve};
-pub use item::{Item, Wanted, items};
+pub use edge::{Edge, resolve};
+pub use item::{Item, items};
 pub use item_text::{has_comma, read_wanted};
-pub use lists::{Root, RootEdge};
+pub use root::{Root, RootEdge};
 pub use statuses::{Found, Status};
+pub use wanted::Wanted;

@@ -6,7 +6,7 @@ ghost use Rattle.port_deps.specs.Statuses as statuses;
 ghost use Rattle.port_deps.specs.Seen.{found_seen};
 ghost use Rattle.port_rules.specs.Packages.{PackageValue};
 
-use crate::item::Wanted;
+use crate::wanted::Wanted;
 use mk_base::FaultKind;
 use port_rules::{Package, PortRecord};
 

@@ -14,7 +14,7 @@ use Rattle.port_index.specs.TreePaths.{AreInOrder, listed_from, named_at, named_
 use Rattle.port_index.specs.Dependencies.{RootItemValue, TestsPorts, is_port_that, root_with, root_state, roots_among, root_among}
 use Rattle.port_index.specs.Dependencies.{items_among, edge_at, edges_among, edges_from}
 use Rattle.port_index.specs.Seen.{GivesTexts, AddsTexts, item_seen, outcomes_in}
-use Rattle.port_index.specs.declared.dependencies.RootItem.{RootItem}
+use Rattle.port_index.specs.declared.root_edges.RootItem.{RootItem}
 use Rattle.port_index.specs.declared.memory_rows.MemoryRows.{MemoryRows}
 use Rattle.port_index.specs.declared.path_finder.PathFinder.{PathFinder}
 

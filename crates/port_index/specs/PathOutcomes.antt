@@ -1,6 +1,7 @@
 -- What a path of a ports tree leads to (pkgpath(7), ports(7), SUBDIR of bsd.port.subdir.mk(5)).
-use Rattle.std.specs.Prelude.{ℕ, ◌+◌, ◌-◌, ◌^◌, min, if◌then◌else◌, List, [], Option, Some, None, Result, Ok, Err, codes}
+use Rattle.std.specs.Prelude.{ℕ, ◌+◌, if◌then◌else◌, List, [], Option, Some, None, Result, Ok, Err, codes}
 use Rattle.std.specs.Str.{bytes_eq}
+use Rattle.turn_amounts.specs.Spent.{counted}
 use Rattle.mk_base.specs.FaultAt.{FaultAt}
 use Rattle.mk_text.specs.Words.{words_of}
 use Rattle.mk_paths.specs.World.{World}
@@ -36,10 +37,6 @@ pub data PathOutcome : Type 0 where
 pub record Finding : Type 0 where
   pub outcome : PathOutcome
   pub cost : ℕ
-
--- a count of 64 bits, which goes no higher than its greatest number
-abbrev pub counted : ℕ → ℕ
-counted n = min n (2 ^ 64 - 1)
 
 -- a cost and more, as such a count
 abbrev pub with_cost : ℕ → ℕ → ℕ

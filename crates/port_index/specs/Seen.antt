@@ -21,7 +21,7 @@ use Rattle.port_index.specs.declared.path_outcomes.Row.TheVariants.{Absent, Faul
 use Rattle.port_index.specs.declared.path_outcomes.Finding.{Finding}
 use Rattle.port_index.specs.declared.noted_rows.KnownRow.{KnownRow}
 use Rattle.port_index.specs.declared.memory_rows.MemoryRows.{MemoryRows}
-use Rattle.port_index.specs.declared.dependencies.RootItem.{RootItem}
+use Rattle.port_index.specs.declared.root_edges.RootItem.{RootItem}
 
 -- a row
 abbrev pub row_seen : Row → PathOutcome

@@ -1,18 +1,12 @@
 -- What is spent to learn something of a world, if some evaluations may be kept already.
-use Rattle.std.specs.Prelude.{◌≡◌, ◌⊎◌, ℕ, ◌+◌, ◌-◌, ◌*◌, ◌≤◌, List, length, Option, Some, None, option_to_list}
+use Rattle.std.specs.Prelude.{◌≡◌, ◌⊎◌, ℕ, ◌-◌, ◌*◌, ◌≤◌, List, length, Option, Some, None, option_to_list}
 use Rattle.turn_amounts.specs.declared.TheConstants.{MOST_CHECKS}
 use Rattle.mk_paths.specs.World.{World}
 use Rattle.mk_eval.specs.Meaning.{means}
 use Rattle.mk_eval.specs.Agreement.{cost_of}
-use Rattle.port_index.specs.declared.spent.Spent.{Spent}
-use Rattle.port_index.specs.PathOutcomes.{counted, cost_at}
+use Rattle.turn_amounts.specs.declared.spent.Spent.{Spent}
+use Rattle.port_index.specs.PathOutcomes.{cost_at}
 use Rattle.port_index.specs.Pairs.{Pair, pair_at}
-
-abbrev pub no_spending : Spent
-no_spending = record { units = 0; checks = 0 }
-
-abbrev pub spent_together : Spent → Spent → Spent
-spent_together one more = record { units = counted (one.units + more.units); checks = counted (one.checks + more.checks) }
 
 -- the units that the evaluation of a makefile costs, if there is a makefile
 abbrev pub evaluation_cost : World → Option Pair → ℕ

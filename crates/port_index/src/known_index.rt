@@ -4,9 +4,10 @@ ghost use Rattle.mk_paths.specs.World.{World};
 ghost use Rattle.port_index.specs.Index as indexed;
 ghost use Rattle.port_index.specs.Known.{GivesAll, GivesPortsThat, IsIndexOf, IsRootAt, IsSameIndex};
 
-use crate::dependencies::{edges_among, edges_from, ports_among, root_among, roots_among};
 use crate::laws::known_rows_are_enough;
 use crate::memory_rows::MemoryRows;
+use crate::root_edges::{edges_among, edges_from};
+use crate::roots::{ports_among, root_among, roots_among};
 use port_deps::{Root, RootEdge};
 use port_rules::PortRecord;
 use std::alloc::{AllocError, Global};

@@ -2,10 +2,9 @@
 //! their statuses.
 #![tactic(auto)]
 
-mod alike;
+mod alike_rows;
 mod asked_names;
-mod dependencies;
-mod flavored;
+mod flavored_targets;
 mod known_index;
 mod laws;
 mod makefiles;
@@ -13,12 +12,13 @@ mod memory_rows;
 mod noted_rows;
 mod path_finder;
 mod path_outcomes;
-mod spent;
+mod root_edges;
+mod roots;
 mod tree_paths;
 
-pub use alike::{are_same, name_alike};
+pub use alike_rows::{are_same, name_alike};
 pub use asked_names::insert_text;
-pub use flavored::flavored_targets;
+pub use flavored_targets::flavored_targets;
 pub use known_index::{IndexPaths, KnownIndex};
 pub use laws::{
     alike_rows_list_the_same, known_rows_are_enough, listed_paths_cost_no_more,
@@ -30,5 +30,4 @@ pub use memory_rows::{MemoryRows, RowFinder, is_one_among};
 pub use noted_rows::KnownRow;
 pub use path_finder::PathFinder;
 pub use path_outcomes::{Finding, Row, finding_of};
-pub use spent::Spent;
 pub use tree_paths::{directories, is_found_in, listed};

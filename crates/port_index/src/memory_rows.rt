@@ -5,7 +5,8 @@ ghost use Rattle.std.specs.BTreeMap.{get_by_text};
 ghost use Rattle.std.specs.BTreeSet.{contains_text};
 ghost use Rattle.std.specs.List.{All, list_any};
 ghost use Rattle.port_index.specs.Finders.{FindsRow, IsEntryOf, IsFinderOf};
-ghost use Rattle.port_index.specs.PathOutcomes.{PathOutcome, counted};
+ghost use Rattle.turn_amounts.specs.Spent.{counted};
+ghost use Rattle.port_index.specs.PathOutcomes.{PathOutcome};
 ghost use Rattle.port_index.specs.Seen.{entries_in, known_seen, names_said_in, names_seen, row_lent, said_in, size_of};
 ghost use Rattle.port_index.specs.Seen.{HaveAsked, PutsSaid, PutsEntry, SaysSame, TakesSaidOut};
 

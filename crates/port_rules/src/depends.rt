@@ -4,7 +4,7 @@ ghost use Rattle.std.specs.Rc.{rc_str_bytes};
 ghost use Rattle.port_rules.specs.Depends as depends;
 ghost use Rattle.port_rules.specs.Depends.{AddsDepends, GivesAllDepends, GivesMoreDepends, GivesNextDepends};
 
-use crate::values::{asked_words, package_words};
+use crate::asked_variables::{asked_words, package_words};
 use mk_base::{Budget, FaultKind, PureStop};
 use mk_env::Env;
 use std::alloc::{AllocError, Global};

@@ -5,8 +5,8 @@ ghost use Rattle.text_parts.specs.Cuts.{now_all};
 ghost use Rattle.port_rules.specs.TextSets.{are_held};
 ghost use Rattle.port_rules.specs.Flavors as flavors;
 
+use crate::asked_variables::lowercase_words;
 use crate::text_sets::TextSet;
-use crate::values::lowercase_words;
 use mk_base::{Budget, FaultKind, PureStop};
 use mk_env::Env;
 use std::alloc::{AllocError, Global};

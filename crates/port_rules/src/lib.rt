@@ -2,20 +2,20 @@
 //! say (bsd.port.mk(5)).
 #![tactic(auto)]
 
+mod asked_variables;
 mod depends;
 mod flavors;
 mod laws;
-mod names;
+mod package_names;
 mod packages;
 mod port;
 mod records;
 mod text_sets;
-mod values;
 
+pub use asked_variables::words_in;
 pub use depends::{Depend, DependKind};
 pub use flavors::PortFlavors;
 pub use laws::records_cost_few;
 pub use packages::Package;
 pub use port::PortRecord;
 pub use records::{Recorded, record};
-pub use values::words_in;

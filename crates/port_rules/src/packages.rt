@@ -5,10 +5,10 @@ ghost use Rattle.port_rules.specs.Packages as packages;
 ghost use Rattle.port_rules.specs.Packages.{GivesEach, GivesPackage, GivesPackages};
 ghost use Rattle.port_rules.specs.Values.{GivesWords};
 
+use crate::asked_variables::{asked_words, package_text};
 use crate::flavors::PortFlavors;
-use crate::names::full_name;
+use crate::package_names::full_name;
 use crate::text_sets::has_double;
-use crate::values::{asked_words, package_text};
 use mk_base::{Budget, FaultKind, PureStop};
 use mk_env::Env;
 use pkg_name::PkgName;

@@ -4,10 +4,10 @@ ghost use Rattle.mk_base.specs.Stops.{GivesPurely};
 ghost use Rattle.port_rules.specs.Ports as ports;
 ghost use Rattle.port_rules.specs.Ports.{MakesPort};
 
+use crate::asked_variables::{asked_text, asked_words};
 use crate::depends::{Depend, read_depends};
 use crate::flavors::{PortFlavors, read_flavors};
 use crate::packages::{Package, read_packages, read_subpackages};
-use crate::values::{asked_text, asked_words};
 use mk_base::{Budget, FaultKind, PureStop};
 use mk_env::Env;
 use std::alloc::{AllocError, Global};

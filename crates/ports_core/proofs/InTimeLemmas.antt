@@ -3,7 +3,7 @@ use Rattle.std.proofs.Common.{◌≡◌, ◌≢◌, ◌<◌, ◌+◌, ◌^◌, �
 use Rattle.std.specs.Prelude.{◌⊎◌, MatchOption, if◌then◌else◌, option_map, option_and_then}
 use Rattle.std.proofs.lemmas.Bool.{cases_eq}
 use Rattle.mk_paths.specs.World.{World}
-use Rattle.port_index.specs.PathOutcomes.{counted}
+use Rattle.turn_amounts.specs.Spent.{counted}
 use Rattle.plain_service.specs.AnswerCosts.{most_turns}
 use Rattle.ports_core.specs.declared.event.Event.{Event}
 use Rattle.ports_core.specs.declared.event.Event.TheVariants.{Open, Piece, End, Fault, Wrote, Turn}

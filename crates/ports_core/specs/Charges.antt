@@ -2,8 +2,9 @@
 use Rattle.std.specs.Prelude.{◌≡◌, ℕ, ◌+◌, ◌<◌, ◌≤◌, MatchBool, MatchOption, List, [], ◌∷◌, slice_get, Option, Some, None}
 use Rattle.turn_amounts.specs.declared.TheConstants.{MOST_SPENT}
 use Rattle.mk_paths.specs.World.{World}
-use Rattle.port_index.specs.declared.spent.Spent.{Spent}
-use Rattle.port_index.specs.Spent.{no_spending, spent_together, ChecksFew}
+use Rattle.turn_amounts.specs.declared.spent.Spent.{Spent}
+use Rattle.turn_amounts.specs.Spent.{no_spending, spent_together}
+use Rattle.port_index.specs.Spent.{ChecksFew}
 use Rattle.ports_http.specs.Messages.{RequestMessage, ReplyMessage}
 use Rattle.plain_service.specs.Questions.{question_of}
 use Rattle.plain_service.specs.AnswerCosts.{evaluations, cost, most_turns}

@@ -2,8 +2,8 @@
 -- yet.
 use Rattle.std.specs.Prelude.{◌≡◌, ◌≢◌, ℕ, ◌+◌, List, slice_get, Option, Some, None, option_map, unwrap_or}
 use Rattle.std.specs.Option.{ForSome}
-use Rattle.port_index.specs.declared.spent.Spent.{Spent}
-use Rattle.port_index.specs.PathOutcomes.{counted}
+use Rattle.turn_amounts.specs.declared.spent.Spent.{Spent}
+use Rattle.turn_amounts.specs.Spent.{counted}
 use Rattle.ports_http.specs.Messages.{RequestMessage}
 use Rattle.plain_service.specs.declared.questions.Question.{Question}
 use Rattle.plain_service.specs.Questions.{question_of}

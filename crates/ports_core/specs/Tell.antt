@@ -1,7 +1,7 @@
 -- What an event tells.
 use Rattle.std.specs.Prelude.{◌≡◌, ℕ, Bool, ◌==◌, Some, None}
 use Rattle.ports_http.specs.Messages.{ReplyMessage}
-use Rattle.port_index.specs.declared.spent.Spent.{Spent}
+use Rattle.turn_amounts.specs.declared.spent.Spent.{Spent}
 use Rattle.ports_core.specs.declared.event.Told.{Told}
 use Rattle.ports_core.specs.declared.event.Tell.{Tell}
 

@@ -3,8 +3,8 @@ ghost use Rattle.std.specs.Prelude.{◌≡◌, Some, None};
 ghost use Rattle.ports_core.specs.Tell.{CountsNone, spent_as_told};
 
 use ports_http::Reply;
-use port_index::Spent;
 use refusals::OutOfMemory;
+use turn_amounts::Spent;
 
 /// Something that happens to a service. Connections go by the number that they had when they opened,
 /// tenants by the place of their key.

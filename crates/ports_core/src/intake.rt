@@ -1,6 +1,6 @@
 //! Taking the next request off a connection.
-ghost use Rattle.std.specs.Prelude.{◌≡◌, ◌<◌, true, All, length, option_map, IfSome, position, bytes_eq, string_bytes};
-ghost use Rattle.ports_core.specs.Keys.{key_texts, tenant_of};
+ghost use Rattle.std.specs.Prelude.{◌≡◌, true, All, length};
+ghost use Rattle.ports_core.specs.Keys.{key_texts};
 ghost use Rattle.ports_core.specs.Connections.{is_ready};
 ghost use Rattle.ports_core.specs.Places.{HasPlace};
 ghost use Rattle.ports_core.specs.OpenConnections.{IsAfterTaking, TakesFirst};
@@ -8,6 +8,7 @@ ghost use Rattle.ports_core.specs.Intake.{Whole, taken_of, refused_at_once, Join
 
 use crate::connection::Connection;
 use crate::event::Tell;
+use crate::keys::place_of;
 use crate::queue::Queue;
 use ports_http::{HeadFault, Reply, Request, TakeError};
 use std::alloc::Global;
@@ -82,23 +83,4 @@ fn admit(
     queue.join(conn, request);
     connection.waits = Some(place);
     None
-}
-
-/// The tenant whose key this is. `None` if there is no key, or if it is no tenant's.
-fn place_of(keys: &[String], key: &Option<Vec<u8>>) -> Option<usize>
-    ensures place { result ≡ tenant_of (key_texts keys.now) (option_map (λ k. k.items) key.now) }
-    ensures within { IfSome result (λ place. place < length keys.now) }
-{
-    match key {
-        Some(key) => place_among(keys, key.as_slice()),
-        None => None,
-    }
-}
-
-/// The place of the first key with these bytes.
-fn place_among(keys: &[String], key: &[u8]) -> Option<usize>
-    ensures place { result ≡ position (λ known. bytes_eq (string_bytes known) key.now) keys.now }
-    ensures within { IfSome result (λ place. place < length keys.now) }
-{
-    keys.iter().position(|known| known.as_bytes() == key)
 }

@@ -1,8 +1,8 @@
 //! The keys of the tenants, and the sizes that a service begins with.
-ghost use Rattle.std.specs.Prelude.{◌≡◌};
+ghost use Rattle.std.specs.Prelude.{◌≡◌, ◌<◌, IfSome, bytes_eq, length, option_map, position};
 ghost use Rattle.std.specs.String.{string_bytes};
 ghost use Rattle.std.specs.List.{list_all};
-ghost use Rattle.ports_core.specs.Keys.{is_size, is_count, is_key, is_key_byte, are_apart, are_keys, key_texts};
+ghost use Rattle.ports_core.specs.Keys.{is_size, is_count, is_key, is_key_byte, are_apart, are_keys, key_texts, tenant_of};
 
 /// The most tenants, and the most bytes of a key.
 const MOST: usize = 64;
@@ -84,4 +84,23 @@ fn are_apart(keys: &[String]) -> bool
         }
     }
     true
+}
+
+/// The tenant whose key this is. `None` if there is no key, or if it is no tenant's.
+pub(crate) fn place_of(keys: &[String], key: &Option<Vec<u8>>) -> Option<usize>
+    ensures place { result ≡ tenant_of (key_texts keys.now) (option_map (λ k. k.items) key.now) }
+    ensures within { IfSome result (λ place. place < length keys.now) }
+{
+    match key {
+        Some(key) => place_among(keys, key.as_slice()),
+        None => None,
+    }
+}
+
+/// The place of the first key with these bytes.
+fn place_among(keys: &[String], key: &[u8]) -> Option<usize>
+    ensures place { result ≡ position (λ known. bytes_eq (string_bytes known) key.now) keys.now }
+    ensures within { IfSome result (λ place. place < length keys.now) }
+{
+    keys.iter().position(|known| known.as_bytes() == key)
 }

@@ -13,8 +13,8 @@ use crate::job::Job;
 use crate::keys::Config;
 use mk_paths::FilesFault;
 use ports_http::{Reply, Request};
-use port_index::Spent;
 use std::alloc::Global;
+use turn_amounts::Spent;
 
 /// The answer to a request.
 #[derive(Drop)]

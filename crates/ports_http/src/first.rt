@@ -7,9 +7,9 @@ ghost use Rattle.ports_http.specs.Streams.{IsUnfinished};
 
 use crate::announced::announced;
 use crate::fault::HeadFault;
+use crate::field_limit::begins_one_more;
 use crate::fields::{closes, key_of};
 use crate::method::Method;
-use crate::one_more::begins_one_more;
 use httparse::spans::{EMPTY_HEADER_SPAN, HeaderSpan, RequestSpans, Span, parse_request};
 use httparse::{Error, Status};
 

@@ -7,11 +7,11 @@
 mod announced;
 mod conn;
 mod fault;
+mod field_limit;
 mod fields;
 mod first;
 pub mod laws;
 mod method;
-mod one_more;
 mod reply;
 mod request;
 mod stream;

@@ -1,7 +1,7 @@
 -- The paths of ports as the code keeps them.
 use Rattle.std.specs.Prelude.{ℕ, List, string_bytes}
-use Rattle.ports_query.specs.declared.paths.PortPath.{PortPath}
-use Rattle.ports_query.specs.declared.paths.PortPath.TheVariants.{Plain, Flavored}
+use Rattle.ports_query.specs.declared.port_path.PortPath.{PortPath}
+use Rattle.ports_query.specs.declared.port_path.PortPath.TheVariants.{Plain, Flavored}
 
 -- the path of a port, as text
 abbrev pub path_seen : PortPath → List ℕ

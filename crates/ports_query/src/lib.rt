@@ -4,18 +4,18 @@
 
 mod candidate;
 mod conditions;
-mod edges;
 mod faults;
 mod kinds;
 mod listed_packages;
 mod operators;
-mod paths;
+mod port_edges;
+mod port_path;
 mod query;
 mod reach;
 
-pub use edges::{edges_to, first_edges};
 pub use faults::QueryFault;
 pub use kinds::Kinds;
 pub use listed_packages::{Listed, admits_one, admitted, answer};
+pub use port_edges::{edges_to, first_edges};
 pub use query::Query;
 pub use reach::{reached, reaching};

@@ -6,9 +6,9 @@ ghost use Rattle.ports_query.specs.Edges.{edges_lent};
 ghost use Rattle.ports_query.specs.Reach as the_reach;
 ghost use Rattle.ports_query.specs.Reach.{GivesPorts, GivesStep, GivesSteps, AddsStep, step_seen};
 
-use crate::edges::first_edges;
 use crate::kinds::Kinds;
-use crate::paths::PortPath;
+use crate::port_edges::first_edges;
+use crate::port_path::PortPath;
 use pkg_path::PkgPath;
 use port_deps::{RootEdge, Status};
 use std::alloc::{AllocError, Global};

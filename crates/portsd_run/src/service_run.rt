@@ -6,8 +6,8 @@ ghost use Rattle.portsd_run.specs.ServiceRun.{ready_text, FailsToListen, FailsTo
 
 use crate::command_line::Serving;
 use ports_core::{Service, Tenants};
-use portsd_text::{DONE, Failure, report, write_whole};
 use ports_serve::{Listen, ListenFault, Wire, serve};
+use portsd_text::{DONE, Failure, report, write_whole};
 use std::alloc::Global;
 use std::io::Write;
 

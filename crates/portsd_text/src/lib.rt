@@ -2,12 +2,12 @@
 //! of a run's events, and why a run ended early.
 #![tactic(auto)]
 
-mod entries;
 mod failure;
 mod input;
 mod numerals;
 mod output;
 mod script;
+mod script_lines;
 mod transcript;
 
 pub use failure::{DONE, Failure, REFUSED, report};

@@ -7,8 +7,8 @@ ghost use Rattle.portsd_text.specs.Scripts.{script_of, numbered, IsFaultOf, Fail
 ghost use Rattle.portsd_text.specs.Scripts.{IsPaired, LendsEntry, AddsEntry, AddsLine, FailsAtLine, FailsForMemory};
 ghost use Rattle.portsd_text.specs.Scripts.{CutsFirstLine, LeavesLess};
 
-use crate::entries::read_event;
 use crate::input::read_input;
+use crate::script_lines::read_event;
 use ports_core::Event;
 use refusals::OutOfMemory;
 use std::alloc::{AllocError, AllocFailed, Global};

@@ -15,7 +15,7 @@ use Rattle.eval_cache.specs.Right.{evaluation_of}
 use Rattle.pkg_path.specs.Paths.{PathValue}
 use Rattle.port_index.specs.Pairs.{Pair}
 use Rattle.port_index.specs.Spent.{evaluation_cost, evaluations_of, ChecksFew, SpendsOnOne}
-use Rattle.port_index.specs.declared.spent.Spent.{Spent}
+use Rattle.turn_amounts.specs.declared.spent.Spent.{Spent}
 use Rattle.plain_service.specs.Answers.{answer_to, reply_after}
 use Rattle.plain_service.specs.Requests.{Answer, reply_alone}
 use Rattle.plain_service.specs.PortReplies.{variable_at, port_at}
@@ -23,7 +23,8 @@ use Rattle.plain_service.specs.AnswerCosts.{pair_of, path_asked, port_cost_at, c
 use Rattle.plain_service.specs.Spent.{SpendsFor}
 use Rattle.ports_http.specs.Messages.{ReplyMessage}
 use Rattle.turn_amounts.specs.declared.TheConstants.{MOST_CHECKS, TURN_UNITS}
-use Rattle.eval_ask.specs.Ask.{AsksOn, EvaluatesInTime, HasComeTo, HasLooked, IsAnswerTo, IsShort, IsUpFrom, AskingSpends, spent_in, spent_less_saved, total_of}
+use Rattle.turn_amounts.specs.Spent.{IsUpFrom, total_of}
+use Rattle.eval_ask.specs.Ask.{AsksOn, EvaluatesInTime, HasComeTo, HasLooked, IsAnswerTo, IsShort, AskingSpends, spent_in, spent_less_saved}
 use Rattle.eval_ask.proofs.AnswerLemmas.{few-come, in-time-looked, short-looked}
 use Rattle.index_keep.specs.Turns.{RefreshView}
 use Rattle.eval_ask.specs.declared.ask.AskTurned.{AskTurned}
@@ -31,8 +32,8 @@ use Rattle.eval_ask.specs.declared.ask.AskTurned.TheVariants.{More, Done}
 use Rattle.eval_ask.specs.declared.ask.Asked.{Asked}
 use Rattle.question_turns.specs.declared.port_ask.PortAsk.{PortAsk}
 use Rattle.question_turns.specs.declared.under_way.Stage.TheVariants.{Evaluating}
-use Rattle.plain_service.specs.declared.port_questions.PortQuestion.{PortQuestion}
-use Rattle.plain_service.specs.declared.port_questions.PortQuestion.TheVariants.{Variable, Record}
+use Rattle.plain_service.specs.declared.port_routes.PortQuestion.{PortQuestion}
+use Rattle.plain_service.specs.declared.port_routes.PortQuestion.TheVariants.{Variable, Record}
 use Rattle.question_turns.specs.PortAsk.{IsPortAsk}
 use Rattle.plain_service.specs.declared.questions.Question.TheVariants.{OfPort}
 use Rattle.question_turns.specs.UnderWay.{ActsForValue, IsReplyToQuestion, LeavesOpen, RepliesInTime, StaysWithin}

@@ -16,8 +16,9 @@ use Rattle.port_index.specs.Index.{needed_paths}
 use Rattle.port_index.specs.PathLaws.{MakefilesAreEvaluated}
 use Rattle.port_index.specs.PathOutcomes.{Absent, cost_at}
 use Rattle.port_index.specs.Pairs.{pairs_at}
-use Rattle.port_index.specs.Spent.{no_spending, spent_together, ChecksFew}
-use Rattle.port_index.specs.declared.spent.Spent.{Spent}
+use Rattle.turn_amounts.specs.Spent.{no_spending, spent_together, spent_in_all}
+use Rattle.port_index.specs.Spent.{ChecksFew}
+use Rattle.turn_amounts.specs.declared.spent.Spent.{Spent}
 use Rattle.plain_service.specs.declared.index_questions.IndexQuestion.{IndexQuestion}
 use Rattle.plain_service.specs.declared.questions.Question.TheVariants.{OfIndex}
 use Rattle.index_store.specs.Entries.{Entries}
@@ -26,14 +27,14 @@ use Rattle.index_keep.specs.Keeper.{TurnsKeeper, refresh_of, keeper_rows}
 use Rattle.index_keep.specs.Shown.{ShownRows, fresh, fresh_outcome}
 use Rattle.index_keep.specs.declared.keeper.Keeper.{Keeper}
 use Rattle.index_keep.proofs.LeftLemmas.{stays-fresh}
-use Rattle.index_keep.specs.Turns.{DropsTurn, RefreshView, refresh_at, spent_by, spent_in_all, cost_left, count_left, evaluations_left, paths_left, units_left, units_saved, IsWithinLeft, ContinuesRefresh, RenewsOne, EndsRefresh, PaysAll, StayFresh, IsRefreshTurn, RefreshingPays}
+use Rattle.index_keep.specs.Turns.{DropsTurn, RefreshView, refresh_at, spent_by, cost_left, count_left, evaluations_left, paths_left, units_left, units_saved, IsWithinLeft, ContinuesRefresh, RenewsOne, EndsRefresh, PaysAll, StayFresh, IsRefreshTurn, RefreshingPays}
 use Rattle.index_keep.specs.declared.keeper.Refreshed.{Refreshed}
 use Rattle.mk_paths.specs.FilesView.{FilesView}
 use Rattle.mk_paths.specs.declared.files.Names as names
 use Rattle.index_store.specs.declared.path_rows.PathRows as rows
 use Rattle.eval_cache.proofs.UseLemmas.{UsesCache-on}
 use Rattle.question_turns.specs.Ports.{LeavesPorts, world_of_ports}
-use Rattle.question_turns.specs.declared.ports.KeptPorts.{KeptPorts}
+use Rattle.question_turns.specs.declared.kept_ports.KeptPorts.{KeptPorts}
 use Rattle.question_turns.specs.UnderWay.{IsSpentOnIndex, RefreshesInTime, StaysWithin}
 
 abbrev by_bytes : List ℕ → List ℕ → Ordering

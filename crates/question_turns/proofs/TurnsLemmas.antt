@@ -17,14 +17,14 @@ use Rattle.port_index.specs.Efforts.{cost_over, evaluations_over}
 use Rattle.port_index.specs.Index.{needed_paths}
 use Rattle.port_index.specs.PathLaws.{MakefilesAreEvaluated}
 use Rattle.port_index.specs.PathOutcomes.{with_cost}
-use Rattle.port_index.specs.Spent.{no_spending, spent_together}
-use Rattle.port_index.specs.declared.spent.Spent.{Spent}
+use Rattle.turn_amounts.specs.Spent.{no_spending, spent_together, IsUpFrom, total_of, spent_in_all}
+use Rattle.turn_amounts.specs.declared.spent.Spent.{Spent}
 use Rattle.plain_service.specs.AnswerCosts.{path_asked, cost_after, cost_for, cost_if_there, rests_for, record_cost_by, record_cost_of, value_cost_of}
 use Rattle.plain_service.specs.declared.index_questions.IndexQuestion.{IndexQuestion}
 use Rattle.plain_service.specs.declared.questions.Question.TheVariants.{OfPort, OfIndex}
 use Rattle.plain_service.specs.declared.questions.Question.{Question}
-use Rattle.eval_ask.specs.Ask.{HasLooked, IsShort, IsUpFrom, SpendsTurn, spent_in, spent_less_saved, total_of}
-use Rattle.index_keep.specs.Turns.{ContinuesRefresh, RefreshView, RefreshingPays, RenewsOne, IsRefreshTurn, cost_left, evaluations_left, spent_by, spent_in_all}
+use Rattle.eval_ask.specs.Ask.{HasLooked, IsShort, SpendsTurn, spent_in, spent_less_saved}
+use Rattle.index_keep.specs.Turns.{ContinuesRefresh, RefreshView, RefreshingPays, RenewsOne, IsRefreshTurn, cost_left, evaluations_left, spent_by}
 use Rattle.index_keep.specs.declared.keeper.Refreshed.{Refreshed}
 use Rattle.index_keep.specs.declared.keeper.Refreshed.TheVariants as turned
 use Rattle.index_keep.specs.Shown.{ShownRows}
@@ -33,8 +33,8 @@ use Rattle.eval_ask.specs.declared.ask.AskTurned.{AskTurned}
 use Rattle.eval_ask.specs.declared.ask.AskTurned.TheVariants.{More, Done}
 use Rattle.question_turns.specs.UnderWay.{StaysWithin}
 use Rattle.question_turns.specs.TurnsLeft.{open_turns, turns_after, turns_of_refresh}
-use Rattle.plain_service.specs.declared.port_questions.PortQuestion.{PortQuestion}
-use Rattle.plain_service.specs.declared.port_questions.PortQuestion.TheVariants.{Variable, Record}
+use Rattle.plain_service.specs.declared.port_routes.PortQuestion.{PortQuestion}
+use Rattle.plain_service.specs.declared.port_routes.PortQuestion.TheVariants.{Variable, Record}
 use Rattle.question_turns.proofs.PortLemmas.{pair_with}
 use Rattle.question_turns.proofs.SpendingLemmas.{left_costs_no_more, left_takes_no_more}
 

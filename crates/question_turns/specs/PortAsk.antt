@@ -8,8 +8,8 @@ use Rattle.mk_paths.specs.declared.search_path.Settings.{Settings}
 use Rattle.pkg_path.specs.Paths.{PathValue}
 use Rattle.eval_cache.specs.Keys.{Key, key_for}
 use Rattle.eval_cache.specs.Right.{evaluation_of}
-use Rattle.port_index.specs.Spent.{no_spending}
-use Rattle.port_index.specs.declared.spent.Spent.{Spent}
+use Rattle.turn_amounts.specs.Spent.{no_spending}
+use Rattle.turn_amounts.specs.declared.spent.Spent.{Spent}
 use Rattle.eval_ask.specs.Ask.{AsksOn, HasComeTo, HasLooked}
 use Rattle.question_turns.specs.declared.port_ask.PortAsk.{PortAsk}
 

@@ -6,13 +6,13 @@ use Rattle.mk_paths.specs.World.{World}
 use Rattle.mk_paths.specs.declared.files.Names as names
 use Rattle.index_store.specs.Entries.{Entries}
 use Rattle.index_store.specs.declared.path_rows.PathRows as rows
-use Rattle.port_index.specs.Spent.{no_spending, spent_together}
-use Rattle.port_index.specs.declared.spent.Spent.{Spent}
+use Rattle.turn_amounts.specs.Spent.{no_spending, spent_together, total_of}
+use Rattle.turn_amounts.specs.declared.spent.Spent.{Spent}
 use Rattle.plain_service.specs.AnswerCosts.{pair_of, path_asked}
 use Rattle.plain_service.specs.declared.index_questions.IndexQuestion.{IndexQuestion}
-use Rattle.plain_service.specs.declared.port_questions.PortQuestion.{PortQuestion}
+use Rattle.plain_service.specs.declared.port_routes.PortQuestion.{PortQuestion}
 use Rattle.plain_service.specs.declared.questions.Question.TheVariants.{OfPort, OfIndex}
-use Rattle.eval_ask.specs.Ask.{EvaluatesInTime, spent_in, total_of}
+use Rattle.eval_ask.specs.Ask.{EvaluatesInTime, spent_in}
 use Rattle.index_keep.specs.Keeper.{TurnsKeeper, refresh_of}
 use Rattle.index_keep.specs.Turns.{RefreshView}
 use Rattle.index_keep.specs.declared.keeper.Refreshed.{Refreshed}
@@ -21,7 +21,7 @@ use Rattle.question_turns.specs.Ports.{world_of_ports}
 use Rattle.question_turns.specs.UnderWay.{IsUnderWayOver, IsSpentOnIndex, RefreshesInTime, RefreshesOn}
 use Rattle.question_turns.specs.TurnsLeft.{IsQuestionTurn, RefreshesFewer, TurnsOn, spent_after, turns_after, turns_of_refresh}
 use Rattle.question_turns.specs.declared.port_ask.PortAsk.{PortAsk}
-use Rattle.question_turns.specs.declared.ports.KeptPorts.{KeptPorts}
+use Rattle.question_turns.specs.declared.kept_ports.KeptPorts.{KeptPorts}
 use Rattle.question_turns.specs.declared.under_way.Turned.{Turned}
 use Rattle.question_turns.specs.declared.under_way.UnderWay.{UnderWay}
 

@@ -12,7 +12,7 @@ use Rattle.index_store.specs.Entries.{Entries}
 use Rattle.index_keep.specs.Keeper.{keeper_rows}
 use Rattle.index_keep.specs.Turns.{StayFresh}
 use Rattle.index_keep.specs.declared.keeper.Keeper.{Keeper}
-use Rattle.question_turns.specs.declared.ports.KeptPorts.{KeptPorts}
+use Rattle.question_turns.specs.declared.kept_ports.KeptPorts.{KeptPorts}
 
 module _ {F R : Type 0} {files : names.Ghosts F} {entries : rows.Ghosts R} (view : F → FilesView) where
   -- the world of the ports

@@ -4,7 +4,7 @@ use Rattle.mk_paths.specs.FilesView.{FilesView, view_world}
 use Rattle.mk_paths.specs.World.{World}
 use Rattle.mk_paths.specs.declared.search_path.Settings.{Settings}
 use Rattle.index_store.specs.Entries.{Entries}
-use Rattle.port_index.specs.Spent.{no_spending}
+use Rattle.turn_amounts.specs.Spent.{no_spending}
 use Rattle.plain_service.specs.declared.questions.Question.{Question}
 use Rattle.index_keep.specs.Keeper.{refresh_of, keeper_rows}
 use Rattle.index_keep.specs.Turns.{RefreshView, StayFresh}

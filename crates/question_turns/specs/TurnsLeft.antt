@@ -3,14 +3,14 @@ use Rattle.std.specs.Prelude.{◌≡◌, ◌≤◌, ◌<◌, ◌+◌, ◌*◌, �
 use Rattle.turn_amounts.specs.declared.TheConstants.{MOST_CHECKS, TURN_UNITS}
 use Rattle.mk_paths.specs.Place.{place}
 use Rattle.mk_paths.specs.World.{World}
-use Rattle.port_index.specs.Spent.{no_spending}
-use Rattle.port_index.specs.declared.spent.Spent.{Spent}
-use Rattle.plain_service.specs.declared.port_questions.PortQuestion.{PortQuestion}
-use Rattle.plain_service.specs.declared.port_questions.PortQuestion.TheVariants.{Variable, Record}
+use Rattle.turn_amounts.specs.Spent.{no_spending, total_of}
+use Rattle.turn_amounts.specs.declared.spent.Spent.{Spent}
+use Rattle.plain_service.specs.declared.port_routes.PortQuestion.{PortQuestion}
+use Rattle.plain_service.specs.declared.port_routes.PortQuestion.TheVariants.{Variable, Record}
 use Rattle.plain_service.specs.declared.questions.Question.{Question}
 use Rattle.plain_service.specs.declared.questions.Question.TheVariants.{OfPort}
 use Rattle.plain_service.specs.AnswerCosts.{cost_for, rests_for}
-use Rattle.eval_ask.specs.Ask.{IsShort, total_of}
+use Rattle.eval_ask.specs.Ask.{IsShort}
 use Rattle.index_keep.specs.Turns.{RefreshView, cost_left, evaluations_left}
 use Rattle.question_turns.specs.declared.under_way.Turned.{Turned}
 use Rattle.question_turns.specs.declared.under_way.Turned.TheVariants.{More, Done}

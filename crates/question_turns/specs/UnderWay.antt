@@ -5,17 +5,18 @@ use Rattle.mk_paths.specs.World.{World}
 use Rattle.ports_http.specs.Messages.{ReplyMessage}
 use Rattle.port_index.specs.Efforts.{cost_over, evaluations_over}
 use Rattle.port_index.specs.Index.{needed_paths}
-use Rattle.port_index.specs.Spent.{no_spending, spent_together, ChecksFew}
-use Rattle.port_index.specs.declared.spent.Spent.{Spent}
+use Rattle.turn_amounts.specs.Spent.{no_spending, spent_together, IsUpFrom, total_of}
+use Rattle.port_index.specs.Spent.{ChecksFew}
+use Rattle.turn_amounts.specs.declared.spent.Spent.{Spent}
 use Rattle.plain_service.specs.declared.questions.Question.{Question}
 use Rattle.plain_service.specs.declared.questions.Question.TheVariants.{Settled, OfFile, OfPort, OfIndex}
-use Rattle.plain_service.specs.declared.port_questions.PortQuestion.{PortQuestion}
-use Rattle.plain_service.specs.declared.port_questions.PortQuestion.TheVariants.{Variable, Record}
+use Rattle.plain_service.specs.declared.port_routes.PortQuestion.{PortQuestion}
+use Rattle.plain_service.specs.declared.port_routes.PortQuestion.TheVariants.{Variable, Record}
 use Rattle.plain_service.specs.Answers.{answer_to}
 use Rattle.plain_service.specs.Requests.{Answer, reply_alone}
 use Rattle.plain_service.specs.AnswerCosts.{pair_of, path_asked, port_cost_at, cost_for, rests_for}
 use Rattle.plain_service.specs.Spent.{SpendsFor}
-use Rattle.eval_ask.specs.Ask.{EvaluatesInTime, IsUpFrom, MakesInTime, spent_in, total_of}
+use Rattle.eval_ask.specs.Ask.{EvaluatesInTime, MakesInTime, spent_in}
 use Rattle.index_keep.specs.Turns.{RefreshView, IsWithinLeft, PaysAll, IsRefreshTurn, cost_left, evaluations_left, paths_left, spent_by}
 use Rattle.index_keep.specs.declared.keeper.Refreshed.{Refreshed}
 use Rattle.question_turns.specs.declared.under_way.Turned.{Turned}

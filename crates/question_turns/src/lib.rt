@@ -2,9 +2,8 @@
 //! the files.
 #![tactic(auto)]
 
+mod kept_ports;
 mod port_ask;
-mod ports;
-mod turns;
 mod under_way;
 
 pub use under_way::{Turned, UnderWay};

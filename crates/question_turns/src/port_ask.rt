@@ -1,19 +1,28 @@
 //! The evaluation of a port's makefile, which may take several turns.
-ghost use Rattle.std.specs.Prelude.{◌≡◌};
+ghost use Rattle.std.specs.Prelude.{◌≡◌, IfOk};
+ghost use Rattle.plain_service.specs.AnswerCosts.{path_asked};
+ghost use Rattle.turn_amounts.specs.Spent.{IsUpFrom};
+ghost use Rattle.question_turns.specs.PortTurns.{EndsTurn};
+ghost use Rattle.question_turns.specs.TurnsLeft.{TellsNoRecord};
+ghost use Rattle.question_turns.specs.UnderWay.{is_of_record};
 ghost use Rattle.read_trace.specs.Recorder.{view_of};
 ghost use Rattle.eval_cache.specs.CacheUse.{UsesCache};
-ghost use Rattle.eval_ask.specs.Ask.{spent_in, IsAskUnderWay, LeavesRecorded};
-ghost use Rattle.question_turns.specs.PortAsk.{BeginsEvaluation, KeepsPortAsk, LooksFirst};
+ghost use Rattle.eval_ask.specs.Ask.{spent_in, IsAskUnderWay, IsShort, LeavesRecorded, SpendsTurn};
+ghost use Rattle.question_turns.specs.PortAsk.{BeginsEvaluation, HasBegunPortAsk, KeepsPortAsk, LooksFirst};
 ghost use Rattle.question_turns.specs.PortAsk.{SpendsWithinCost, TurnsPortAsk};
 
-use eval_ask::{Ask, AskTurned};
+use crate::under_way::{Stage, Turned, UnderWay};
+use eval_ask::{Ask, AskTurned, asking_spends};
 use eval_cache::{EvalCache, Purpose};
+use mk_eval::evaluations_cost_few;
 use mk_files::Files;
 use mk_paths::{FilesFault, Name, Settings, find};
 use pkg_path::PkgPath;
-use port_index::Spent;
+use plain_service::PortQuestion;
+use port_rules::records_cost_few;
 use read_trace::Recorder;
-use std::alloc::Global;
+use std::alloc::{AllocError, Global};
+use turn_amounts::{Spent, TURN_UNITS, left_of};
 
 /// The makefile of a port, whose evaluation is under way or at its end.
 #[derive(Drop)]
@@ -74,4 +83,51 @@ impl PortAsk {
     {
         self.came.spent()
     }
+
+    /// Ends a turn that went on with the evaluation, before which so much was spent. If the turn may still act, the
+    /// evaluation is at its end, and the reply is made of it. A turn ends once a record is made.
+    pub(crate) fn end_turn(
+        self,
+        alloc: Global,
+        question: PortQuestion,
+        before: Spent,
+    ) -> Result<Turned, AllocError>
+        requires begun { HasBegunPortAsk (path_asked question) self }
+        requires up { IsUpFrom before (spent_in self.came) }
+        requires enough { SpendsTurn TURN_UNITS before self.came }
+        requires few { IsShort TURN_UNITS before (spent_in self.came) }
+        ensures turn { EndsTurn result question self before }
+        ensures later { IfOk result (TellsNoRecord question) }
+    {
+        asking_spends();
+        evaluations_cost_few();
+        records_cost_few();
+        let evaluated = self.spent();
+        if left_of(TURN_UNITS, before, evaluated) == 0 {
+            return Ok(Turned::More(UnderWay {
+                stage: Stage::Evaluating(question, self),
+                spent: evaluated,
+            }));
+        }
+        let PortAsk { makefile, came } = self;
+        let AskTurned::Done(asked) = came else {
+            unreachable!() // its turn has spent its units
+        };
+        let (reply, cost) = question.reply(alloc, &asked.evaluation.outcome, &makefile)?;
+        let spent = asked.spent_on(cost);
+        if !takes_record(&question) && left_of(TURN_UNITS, before, spent) > 0 {
+            return Ok(Turned::Done(reply, spent));
+        }
+        Ok(Turned::More(UnderWay {
+            stage: Stage::Ready(question, reply),
+            spent,
+        }))
+    }
+}
+
+/// Whether a question takes a record from an evaluation. A turn ends once a record is made.
+fn takes_record(question: &PortQuestion) -> bool
+    ensures { result ≡ is_of_record question.now }
+{
+    matches!(question, PortQuestion::Record(_))
 }

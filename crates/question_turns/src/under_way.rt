@@ -5,18 +5,19 @@ ghost use Rattle.index_keep.specs.Keeper.{IsKept};
 ghost use Rattle.plain_service.specs.declared.questions.Question.TheVariants.{OfPort, OfIndex};
 ghost use Rattle.question_turns.specs.Questions.{BeginsAtRest, BeginsQuestion, IsPendingOver, KeepsFresh, Works};
 
+use crate::kept_ports::KeptPorts;
 use crate::port_ask::PortAsk;
-use crate::ports::KeptPorts;
 use eval_cache::EvalCache;
 use index_keep::Keeper;
 use index_store::PathRows;
 use mk_files::Listing;
 use mk_paths::{FilesFault, Settings};
-use ports_http::Reply;
-use port_index::{Spent, makefiles_are_evaluated};
 use plain_service::{IndexQuestion, PortQuestion};
+use port_index::makefiles_are_evaluated;
+use ports_http::Reply;
 use read_trace::{Recorder, Trace};
 use std::alloc::Global;
+use turn_amounts::Spent;
 
 /// What is under way for a question, and what was spent on it.
 #[derive(Drop)]

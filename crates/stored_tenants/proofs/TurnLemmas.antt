@@ -3,7 +3,7 @@ use Rattle.std.proofs.Common.{◌≡◌, ◌≤◌, ◌<◌, ◌+◌, ◌*◌, �
 use Rattle.std.specs.Prelude.{◌/◌, Bool}
 use Rattle.turn_amounts.specs.declared.TheConstants.{MOST_CHECKS, TURN_UNITS}
 use Rattle.mk_paths.specs.World.{World}
-use Rattle.port_index.specs.declared.spent.Spent.{Spent}
+use Rattle.turn_amounts.specs.declared.spent.Spent.{Spent}
 use Rattle.plain_service.specs.AnswerCosts.{cost_for, rests_for, turns_for}
 use Rattle.plain_service.specs.declared.questions.Question.{Question}
 use Rattle.ports_core.specs.Jobs as jobs

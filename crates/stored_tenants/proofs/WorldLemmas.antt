@@ -16,8 +16,8 @@ use Rattle.ports_core.specs.Charges.{SpendsOnRequest, MayHaveHad, Charges, Charg
 use Rattle.ports_core.specs.Jobs.{TenantJob, had_by, one_turn_more, spent_on}
 use Rattle.ports_core.specs.declared.tenants.Answer.{Answer}
 use Rattle.ports_core.specs.Tell.{is_failure}
-use Rattle.port_index.specs.Spent.{no_spending, spent_together}
-use Rattle.port_index.specs.declared.spent.Spent.{Spent}
+use Rattle.turn_amounts.specs.Spent.{no_spending, spent_together}
+use Rattle.turn_amounts.specs.declared.spent.Spent.{Spent}
 use Rattle.stored_tenants.specs.declared.tenant.Tenant.{Tenant}
 use Rattle.stored_tenants.specs.Kept.{world_of, worlds_of, world_at, HaveOpeningWorlds}
 use Rattle.stored_tenants.specs.Turn.{AnswersOver, ChargesOver}

@@ -8,7 +8,7 @@ use Rattle.index_keep.specs.Turns.{StayFresh}
 use Rattle.question_turns.specs.UnderWay.{IsUnderWayOver}
 use Rattle.question_turns.specs.TurnsLeft.{TurnsOn}
 use Rattle.question_turns.specs.declared.under_way.UnderWay.{UnderWay}
-use Rattle.stored_tenants.specs.declared.turn.Asking.{Asking}
+use Rattle.stored_tenants.specs.declared.asking.Asking.{Asking}
 
 -- the world of these files, and of the settings with which a question is asked
 abbrev pub world_asked : FileMap → Asking → World

@@ -2,8 +2,9 @@
 use Rattle.std.specs.Prelude.{◌≡◌, ◌<◌, ◌≤◌, ℕ, Bool, List, length, MatchOption, IfNone, IfSome, Option, Some, None, Result, IfOk}
 use Rattle.mk_paths.specs.World.{World}
 use Rattle.ports_http.specs.Messages.{RequestMessage}
-use Rattle.port_index.specs.Spent.{spent_together, ChecksFew}
-use Rattle.port_index.specs.declared.spent.Spent.{Spent}
+use Rattle.turn_amounts.specs.Spent.{spent_together}
+use Rattle.port_index.specs.Spent.{ChecksFew}
+use Rattle.turn_amounts.specs.declared.spent.Spent.{Spent}
 use Rattle.plain_service.specs.Change.{settle_change}
 use Rattle.plain_service.specs.Plain.{served}
 use Rattle.plain_service.specs.Questions.{question_of}
@@ -26,7 +27,7 @@ use Rattle.question_turns.specs.declared.under_way.UnderWay.{UnderWay}
 use Rattle.stored_tenants.specs.Kept.{job_at, job_of, seen_job, world_at, world_of}
 use Rattle.stored_tenants.specs.declared.tenant.Tenant.{Tenant}
 use Rattle.stored_tenants.specs.declared.tenant.TenantJob as jobs
-use Rattle.stored_tenants.specs.declared.world.Incoming.{Incoming}
+use Rattle.stored_tenants.specs.declared.tenant_turns.Incoming.{Incoming}
 
 -- what a question over a world may have had while it isn't answered
 pub record MayHaveTaken (world : World) (question : Question) (had : Job) : Type 0 where

@@ -5,9 +5,9 @@ ghost use Rattle.stored_tenants.specs.Kept.{job_of, seen_job};
 
 use index_keep::Keeper;
 use index_store::IndexStore;
-use question_turns::UnderWay;
 use mk_paths::Settings;
 use ports_core::Job;
+use question_turns::UnderWay;
 use tenant_store::TenantStore;
 
 /// The files and settings of a tenant, the keeper of its index, and its job, if there is one.

@@ -10,7 +10,7 @@ ghost use Rattle.stored_tenants.specs.RowMarks.{KeepRows, KeepsOtherTenants, Lea
 ghost use Rattle.stored_tenants.specs.Turn.{TurnsTenantAt};
 
 use crate::tenant::Tenant;
-use crate::world::Incoming;
+use crate::tenant_turns::Incoming;
 use eval_cache::EvalCache;
 use index_keep::Keeper;
 use index_store::IndexStore;

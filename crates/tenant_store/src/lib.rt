@@ -4,8 +4,8 @@
 mod asker;
 mod contents;
 mod faults;
+mod file_lengths;
 mod lent_files;
-mod notes;
 mod queries;
 mod settings;
 mod store;

@@ -11,7 +11,7 @@ ghost use Rattle.tenant_store.specs.Answers.{GivesContent, FitsWithFile, TellsWh
 
 use crate::contents::{keep_content, kept_content};
 use crate::faults::PutFault;
-use crate::notes::{forget, list_of, note, put_back, without};
+use crate::file_lengths::{forget, list_of, note, put_back, without};
 use crate::queries::{content_of, settings_row};
 use crate::settings::{set_path, set_profile};
 use crate::tables::open;
@@ -20,12 +20,12 @@ use lru::LruCache;
 use mk_files::{Content, Usage};
 use mk_paths::{FilesFault, Name, PathFault, SearchPath, Settings};
 use mk_text::Profile;
+use sql_facts::Sqlite;
 use sqlite::{Connection, MemStore};
 use std::alloc::{AllocError, Global};
 use std::collections::BTreeMap;
 use std::marker::Model;
 use std::num::NonZeroUsize;
-use sql_facts::Sqlite;
 
 /// The files, the search path and the profile of one tenant, in a database in memory of its own. Clauses see the world
 /// that they are: the files as a map of names to contents, and the settings.

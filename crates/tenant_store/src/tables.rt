@@ -5,9 +5,9 @@ ghost use Rattle.tenant_store.specs.Tables.{HoldsWorld, IsBare, file_schema};
 ghost use Rattle.sql_facts.specs.Tables.{no_schema};
 ghost use Rattle.sql_facts.specs.States.{IsSettled, state_of};
 
+use sql_facts::run_alone;
 use sqlite::{Connection, Error, MemStore};
 use std::alloc::Global;
-use sql_facts::run_alone;
 
 fn create_files(conn: &mut Connection<MemStore>) -> Result<(), Error>
     requires autocommit { (state_of conn.old).in_transaction ≡ false }

@@ -8,8 +8,8 @@ ghost use Rattle.sql_facts.specs.States.{state_of};
 ghost use Rattle.tenant_store.specs.Tables.{IsStoreAtRest, conn_world, LeavesWorld, StoresFile};
 
 use crate::queries::SettingsRow;
-use sqlite::{Connection, Error, MemStore, params};
 use sql_facts::run_alone;
+use sqlite::{Connection, Error, MemStore, params};
 
 fn insert_file(conn: &mut Connection<MemStore>, name: &str, content: &[u8]) -> Result<(), Error>
     requires kept { IsStoreAtRest (state_of conn.old) }

@@ -1,9 +1,13 @@
-//! How much one turn of a request does at most, and of what that is made. Each of these numbers is written here alone.
+//! What is spent, and how much one turn of a request does at most and of what that is made. Each of these numbers is
+//! written here alone.
 #![tactic(auto)]
 
 ghost use Rattle.std.specs.Prelude.{◌≡◌};
 
+mod spent;
+
 use mk_base::{QUESTIONS, UNITS};
+pub use spent::{Spent, left_of, spent_since};
 
 /// The most evaluations that are kept under one key.
 pub const MOST_EVALUATIONS: usize = 4;

@@ -1,5 +1,5 @@
 //! Streams that are cut anywhere.
-use crate::served::{config, happen};
+use crate::case_requests::{config, happen};
 use crate::service::service_of_one;
 use case_lines::{Answer, Trouble};
 use ports_core::{Event, Step, Tell, Told, Transcript, replay};

@@ -2,24 +2,24 @@
 ghost use Rattle.std.specs.Prelude.{◌≡◌, IfOk};
 ghost use Rattle.mk_paths.specs.FilesView.{view_world};
 ghost use Rattle.mk_paths.specs.World as worlds;
-ghost use Rattle.port_index.specs.Spent.{no_spending};
+ghost use Rattle.turn_amounts.specs.Spent.{no_spending};
 ghost use Rattle.index_store.specs.PortTable.{stored_by};
 ghost use Rattle.index_keep.specs.Keeper.{begun_in, refresh_of, IsKept};
 ghost use Rattle.index_keep.specs.Turns.{RefreshView};
 ghost use Rattle.question_turns.specs.UnderWay.{IsUnderWayOver};
 
-use crate::service::reply_answer;
+use crate::plain_requests::reply_answer;
 use case_lines::{Answer, Trouble, one_text};
 use eval_cache::EvalCache;
 use index_keep::Keeper;
 use index_store::IndexStore;
-use question_turns::{Turned, UnderWay};
 use make_cases::{Asking, FailingFiles, World, failing_answer};
 use mk_files::Listing;
 use mk_paths::{FilesFault, Settings};
 use plain_reference::answer;
-use ports_http::Method;
 use plain_service::{Plain, Question};
+use ports_http::Method;
+use question_turns::{Turned, UnderWay};
 use std::alloc::Global;
 
 /// `GET failing TARGET`: the status and the body of the plain reply over the world, in files that fail at each of their

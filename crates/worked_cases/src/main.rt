@@ -4,20 +4,23 @@
 //! a list of its calls on top.
 #![tactic(auto)]
 
-mod clients;
+mod case_requests;
 mod cut_streams;
 mod failing_files;
+mod failing_streams;
+mod http_calls;
 mod interrupted;
-mod loopback;
+mod loopback_client;
 mod never_kept;
-mod orders;
-mod quiet;
-mod served;
+mod plain_requests;
+mod program_runs;
+mod quiet_ports;
+mod request_turns;
 mod service;
-mod streams;
+mod slow_client;
+mod socket_clients;
 mod subjects;
-mod trickle;
-mod turns;
+mod turn_orders;
 mod visitors;
 
 use case_lines::{Bench, Cases};

@@ -1,7 +1,8 @@
 //! The things that lines of a case set up and ask, and which call each line means.
 use crate::service::StoredService;
 use crate::{
-    cut_streams, failing_files, loopback, orders, served, service, streams, trickle, visitors,
+    case_requests, cut_streams, failing_files, failing_streams, http_calls, loopback_client,
+    plain_requests, program_runs, service, slow_client, turn_orders, visitors,
 };
 use case_lines::{Answer, Bench, Ran, Trouble};
 use index_store::IndexStore;
@@ -65,7 +66,7 @@ impl<'a, N: Net> Subjects<'a, N> {
 
     fn answer_of_service(&mut self, call: &str, given: &[Vec<u8>]) -> Result<Answer, Trouble> {
         match &mut self.service {
-            Some(service) => served::answer(self.alloc, service, call, given),
+            Some(service) => case_requests::answer(self.alloc, service, call, given),
             None => Err(Trouble::NoCase),
         }
     }
@@ -84,7 +85,7 @@ impl<N: Net> Bench for Subjects<'_, N> {
         match call {
             "empty stores" => self.stores = Some(store_cases::empty(self.alloc)?),
             "empty rows" => self.rows = Some(store_cases::rows::empty(self.alloc)?),
-            "new service" => self.service = Some(served::new(self.alloc, given)?),
+            "new service" => self.service = Some(case_requests::new(self.alloc, given)?),
             _ => self.setup.set_up(call, given)?,
         }
         Ok(())
@@ -93,33 +94,38 @@ impl<N: Net> Bench for Subjects<'_, N> {
     fn answer(&mut self, call: &str, given: &[Vec<u8>]) -> Result<Answer, Trouble> {
         let alloc = self.alloc;
         match call {
-            "GET" => service::request(alloc, &mut self.setup.world, Method::Get, given),
-            "PUT" => service::request(alloc, &mut self.setup.world, Method::Put, given),
-            "DELETE" => service::request(alloc, &mut self.setup.world, Method::Delete, given),
+            "GET" => plain_requests::request(alloc, &mut self.setup.world, Method::Get, given),
+            "PUT" => plain_requests::request(alloc, &mut self.setup.world, Method::Put, given),
+            "DELETE" => plain_requests::request(
+                alloc,
+                &mut self.setup.world,
+                Method::Delete,
+                given,
+            ),
             "GET failing" => failing_files::answered(alloc, &mut self.setup.world, given),
             "turn failing" => failing_files::turned(alloc, &mut self.setup.world, given),
-            "rests" => service::rests(alloc, &mut self.setup.world, given),
-            "bound" => service::bound(alloc, &mut self.setup.world, given),
-            "stream" => service::stream(alloc, given),
-            "stream by bytes" => service::stream_by_bytes(alloc, given),
-            "reply file" => service::file_reply(alloc, given),
-            "reply method" => service::method_reply(alloc),
-            "reply head" => service::head_reply(alloc),
-            "reply key" => service::key_reply(alloc),
-            "reply store" => service::store_reply(alloc),
-            "run on" => service::run(alloc, given),
-            "refused on" => service::run_refused(alloc, given),
-            "input failing after" => streams::failing_input(alloc, given),
-            "serve on within" => streams::narrow_serving(alloc, given),
-            "trickle" => trickle::trickled(alloc, given),
-            "narrow output" => streams::narrow_output(alloc, given),
-            "print" => streams::printed_steps(alloc, given),
-            "open and end" => service::open_and_end(alloc, given),
+            "rests" => plain_requests::rests(alloc, &mut self.setup.world, given),
+            "bound" => plain_requests::bound(alloc, &mut self.setup.world, given),
+            "stream" => http_calls::stream(alloc, given),
+            "stream by bytes" => http_calls::stream_by_bytes(alloc, given),
+            "reply file" => http_calls::file_reply(alloc, given),
+            "reply method" => http_calls::method_reply(alloc),
+            "reply head" => http_calls::head_reply(alloc),
+            "reply key" => http_calls::key_reply(alloc),
+            "reply store" => http_calls::store_reply(alloc),
+            "run on" => program_runs::run(alloc, given),
+            "refused on" => program_runs::run_refused(alloc, given),
+            "input failing after" => failing_streams::failing_input(alloc, given),
+            "serve on within" => failing_streams::narrow_serving(alloc, given),
+            "trickle" => slow_client::trickled(alloc, given),
+            "narrow output" => failing_streams::narrow_output(alloc, given),
+            "print" => failing_streams::printed_steps(alloc, given),
+            "open and end" => program_runs::open_and_end(alloc, given),
             "after at" => service::after(alloc, given),
             "ends of" => cut_streams::ends_of(alloc, given),
             "by bytes" => cut_streams::by_bytes(alloc, given),
-            "any order of with" => orders::any_order(alloc, given),
-            "loopback" => loopback::answered(alloc, self.net, given),
+            "any order of with" => turn_orders::any_order(alloc, given),
+            "loopback" => loopback_client::answered(alloc, self.net, given),
             "visits by" => visitors::served(alloc, self.net, given),
             "listen" => visitors::listens(alloc, self.net),
             _ => self.answer_of_other(call, given),
@@ -127,6 +133,6 @@ impl<N: Net> Bench for Subjects<'_, N> {
     }
 
     fn run(&mut self, words: &str, input: &[u8]) -> Result<Ran, Trouble> {
-        service::run_program(self.alloc, words, input)
+        program_runs::run_program(self.alloc, words, input)
     }
 }

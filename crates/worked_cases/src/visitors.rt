@@ -1,10 +1,10 @@
 //! Clients over TCP that come one after another, and where the service listens for them.
-use crate::clients::{Clients, WithClients, listening};
 use crate::service::service_of_one;
+use crate::socket_clients::{Clients, WithClients, listening};
 use case_lines::{Answer, Trouble, as_number};
 use mio::net::TcpStream;
-use portsd_host::Loopback;
 use ports_serve::{Listen, serve};
+use portsd_host::Loopback;
 use std::alloc::Global;
 use std::io::{Read, Write};
 use std::net::{IpAddr, Ipv4Addr, Net, SocketAddr};

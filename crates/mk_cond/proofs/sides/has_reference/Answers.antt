@@ -2,8 +2,8 @@
 use Rattle.std.proofs.Common.{◌≡◌, ◌≢◌, ◌∙◌, ℕ, List, [], ◌∷◌, ◌||◌, map, true, refl, sym, ap}
 use Rattle.std.specs.List.{list_any}
 use Rattle.mk_ref.specs.UnitFacts.{IsFaultOf-left}
-use Rattle.mk_ref.specs.declared.piece.Piece.{Piece}
-use Rattle.mk_ref.specs.declared.piece.Piece.TheVariants as v
+use Rattle.mk_ref.specs.declared.pieces_of_text.Piece.{Piece}
+use Rattle.mk_ref.specs.declared.pieces_of_text.Piece.TheVariants as v
 use Rattle.mk_ref.specs.Units.{units_of, left_of}
 use Rattle.mk_ref.specs.Pieces.{TextPiece, pieces_of}
 use Rattle.mk_ref.specs.Places.{piece_in_text}

@@ -1,7 +1,7 @@
 -- What is settled is what the evaluation came to, after what was spent on it before.
 use Rattle.std.proofs.Common.{subst, sym, IfOk}
 use Rattle.mk_paths.specs.World.{World}
-use Rattle.port_index.specs.declared.spent.Spent.{Spent}
+use Rattle.turn_amounts.specs.declared.spent.Spent.{Spent}
 use Rattle.read_trace.specs.Recorder.{view_of}
 use Rattle.index_keep.specs.Keeper.{TurnsKeeper, path_evaluated}
 use Rattle.index_keep.specs.Paths.{IsUpTo, TurnsPath}

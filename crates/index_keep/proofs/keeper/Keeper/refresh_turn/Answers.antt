@@ -6,7 +6,7 @@ use Rattle.read_trace.specs.Recorder.{view_of}
 use Rattle.index_keep.specs.declared.keeper.Progress.{Progress}
 use Rattle.index_keep.specs.declared.keeper.Progress.TheVariants.{Changed, Walking, Asking}
 use Rattle.index_keep.specs.Shown.{shown, no_name, ShowsSame}
-use Rattle.port_index.specs.Spent.{no_spending}
+use Rattle.turn_amounts.specs.Spent.{no_spending}
 use Rattle.index_keep.specs.Keeper.{changed_in, begun_in, refresh_of, keeper_rows, IsKept, IsProgress, IsAskOnTheWay, TurnsKeeper}
 use Rattle.index_keep.specs.Right.{AreKept}
 use Rattle.index_keep.specs.Turns.{RefreshView, refresh_at}

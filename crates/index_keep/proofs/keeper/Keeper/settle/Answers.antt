@@ -1,7 +1,7 @@
 -- The row that is written is the path's, and the walk knows of it.
 use Rattle.std.proofs.Common.{◌≤◌, ◌∙◌, subst}
 use Rattle.port_index.specs.PathOutcomes.{cost_at}
-use Rattle.port_index.specs.declared.spent.Spent.{Spent}
+use Rattle.turn_amounts.specs.declared.spent.Spent.{Spent}
 use Rattle.index_keep.specs.Paths.{TurnsPath}
 use Rattle.index_keep.specs.Shown.{shown, no_name}
 use Rattle.index_keep.proofs.LeftLemmas.{goes-on}

@@ -2,8 +2,8 @@
 use Rattle.std.proofs.Common.{subst, sym, string_bytes, IfOk}
 use Rattle.mk_paths.specs.FilesView.{view_world}
 use Rattle.mk_paths.specs.World.{World, FileMap}
-use Rattle.port_index.specs.Spent.{no_spending}
-use Rattle.port_index.specs.declared.spent.Spent.{Spent}
+use Rattle.turn_amounts.specs.Spent.{no_spending}
+use Rattle.turn_amounts.specs.declared.spent.Spent.{Spent}
 use Rattle.read_trace.specs.Recorder.{view_of}
 use Rattle.index_keep.specs.Keeper.{IsReadyFor, TurnsKeeper}
 use Rattle.index_keep.specs.Paths.{IsFoundAt, TurnsPath}

@@ -5,11 +5,12 @@ use Rattle.mk_base.specs.declared.budget.TheConstants.{UNITS}
 use Rattle.mk_paths.specs.FilesView.{Question}
 use Rattle.mk_eval.specs.Agreement.{cost_of}
 use Rattle.read_trace.specs.declared.evaluation.Evaluation.{Evaluation}
-use Rattle.port_index.specs.declared.spent.Spent.{Spent}
+use Rattle.turn_amounts.specs.declared.spent.Spent.{Spent}
 use Rattle.port_index.specs.PathOutcomes.{Finding, finding_of_evaluation}
 use Rattle.port_index.specs.Seen.{finding_seen}
 use Rattle.index_row.specs.Rows.{RowValue}
-use Rattle.eval_ask.specs.Ask.{spent_less_saved, total_of}
+use Rattle.turn_amounts.specs.Spent.{total_of}
+use Rattle.eval_ask.specs.Ask.{spent_less_saved}
 use Rattle.eval_ask.specs.declared.ask.Asked.{Asked}
 use Rattle.index_keep.specs.Paths.{flavors_named}
 use Rattle.index_keep.specs.Right.{names_in}

@@ -2,9 +2,10 @@
 use Rattle.std.proofs.Common.{refl, subst, sym, arith, IfOk, Bor, map, option_map, string_bytes, List, String, Global}
 use Rattle.mk_paths.specs.World.{World, FileMap}
 use Rattle.eval_cache.specs.Keys.{key_for}
-use Rattle.port_index.specs.declared.spent.Spent.{Spent}
+use Rattle.turn_amounts.specs.declared.spent.Spent.{Spent}
 use Rattle.read_trace.specs.Recorder.{view_of}
-use Rattle.eval_ask.specs.Ask.{HasComeTo, HasLooked, IsUpFrom, spent_in}
+use Rattle.turn_amounts.specs.Spent.{IsUpFrom}
+use Rattle.eval_ask.specs.Ask.{HasComeTo, HasLooked, spent_in}
 use Rattle.index_keep.specs.Paths.{IsPathAsk, TurnsPath}
 use Rattle.index_keep.specs.declared.path_ask.PathAsk.{PathAsk}
 use Rattle.index_keep.proofs.path_ask.PathAsk.begin.Goals as goal

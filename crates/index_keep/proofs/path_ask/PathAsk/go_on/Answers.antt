@@ -3,8 +3,9 @@ use Rattle.std.proofs.Common.{◌≡◌, ◌≤◌, ◌+◌, ◌-◌, ◌∙◌,
 use Rattle.mk_base.specs.declared.budget.TheConstants.{UNITS}
 use Rattle.eval_cache.specs.Keys.{key_for}
 use Rattle.read_trace.specs.Recorder.{view_of}
-use Rattle.port_index.specs.declared.spent.Spent.{Spent}
-use Rattle.eval_ask.specs.Ask.{HasComeTo, IsUpFrom, spent_in, total_of}
+use Rattle.turn_amounts.specs.declared.spent.Spent.{Spent}
+use Rattle.turn_amounts.specs.Spent.{IsUpFrom, total_of}
+use Rattle.eval_ask.specs.Ask.{HasComeTo, spent_in}
 use Rattle.index_keep.specs.Paths.{flavors_named}
 use Rattle.eval_ask.specs.declared.ask.AskTurned.{AskTurned}
 use Rattle.eval_ask.specs.declared.ask.AskTurned.TheVariants.{Done}

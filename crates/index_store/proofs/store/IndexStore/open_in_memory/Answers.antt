@@ -3,7 +3,7 @@ use Rattle.std.proofs.Common.{◌∙◌, ap, sym, is_some}
 use Rattle.std.specs.Prelude.{option_map}
 use Rattle.sql_facts.specs.States.{state_of}
 use Rattle.index_store.specs.PortTable.{Rows, all_of, value_stored}
-use Rattle.index_store.specs.declared.port_table.Part.TheVariants.{Earlier}
+use Rattle.index_store.specs.declared.statements.Part.TheVariants.{Earlier}
 use Rattle.index_store.proofs.Answering.{all_found}
 use Rattle.index_store.proofs.NotedLemmas.{none-noted}
 use Rattle.index_store.proofs.store.IndexStore.open_in_memory.Goals as goal

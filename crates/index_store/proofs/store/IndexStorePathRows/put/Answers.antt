@@ -6,7 +6,7 @@ use Rattle.std.specs.Option.{option_or}
 use Rattle.std.specs.Prelude.{option_map}
 use Rattle.sql_facts.specs.States.{state_of}
 use Rattle.index_store.specs.PortTable.{Entry, rows_of, stored_in, value_stored}
-use Rattle.index_store.specs.declared.port_table.Part.TheVariants.{Earlier, Current}
+use Rattle.index_store.specs.declared.statements.Part.TheVariants.{Earlier, Current}
 use Rattle.index_store.proofs.Answering.{all_found}
 use Rattle.index_store.proofs.NotedLemmas.{not-noted}
 use Rattle.index_store.proofs.store.IndexStorePathRows.put.Goals as goal

@@ -8,17 +8,18 @@ use Rattle.mk_eval.specs.Agreement.{cost_of}
 use Rattle.read_trace.specs.declared.evaluation.Evaluation.{Evaluation}
 use Rattle.port_rules.specs.Records.{RecordsCostFew}
 use Rattle.ports_http.specs.Messages.{ReplyMessage}
-use Rattle.port_index.specs.declared.spent.Spent.{Spent}
+use Rattle.turn_amounts.specs.declared.spent.Spent.{Spent}
 use Rattle.plain_service.specs.Answers.{reply_after}
 use Rattle.plain_service.specs.AnswerCosts.{pair_of, path_asked, cost_after}
 use Rattle.plain_service.specs.Spent.{SpendsFor}
-use Rattle.plain_service.specs.declared.port_questions.PortQuestion.{PortQuestion}
-use Rattle.plain_service.specs.declared.port_questions.PortQuestion.TheVariants.{Variable, Record}
+use Rattle.plain_service.specs.declared.port_routes.PortQuestion.{PortQuestion}
+use Rattle.plain_service.specs.declared.port_routes.PortQuestion.TheVariants.{Variable, Record}
 use Rattle.plain_service.specs.declared.questions.Question.TheVariants.{OfPort}
 use Rattle.eval_cache.specs.Keys.{key_for}
 use Rattle.mk_base.specs.declared.budget.TheConstants.{UNITS}
 use Rattle.turn_amounts.specs.declared.TheConstants.{TURN_UNITS}
-use Rattle.eval_ask.specs.Ask.{AskingSpends, EvaluatesInTime, HasComeTo, IsAnswerTo, IsShort, IsUpFrom, spent_in, spent_less_saved, total_of}
+use Rattle.turn_amounts.specs.Spent.{IsUpFrom, total_of}
+use Rattle.eval_ask.specs.Ask.{AskingSpends, EvaluatesInTime, HasComeTo, IsAnswerTo, IsShort, spent_in, spent_less_saved}
 use Rattle.eval_ask.specs.declared.ask.Asked.{Asked}
 use Rattle.eval_ask.specs.declared.ask.AskTurned.{AskTurned}
 use Rattle.eval_ask.specs.declared.ask.AskTurned.TheVariants.{Done}

@@ -1,5 +1,0 @@
-use Rattle.index_row.proofs.Adding.{Adds-byte}
-use Rattle.index_row.proofs.fields.write_byte.Goals as goal
-
-pub returns : goal.returns
-returns c = Adds-byte _ _ _ c.in_ok-push.ensures.items

@@ -1,7 +1,0 @@
--- The name is taken out.
-use Rattle.std.proofs.Common.{None}
-use Rattle.std.proofs.lemmas.Map.Text.{btree_map_updates_text}
-use Rattle.tenant_store.proofs.notes.forget.Goals as goal
-
-pub returns : goal.returns
-returns c = btree_map_updates_text c.args.name.now c.args.lengths.now c.remove-noted.new.self None c.remove-noted.ensures.updates

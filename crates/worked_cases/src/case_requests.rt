@@ -1,0 +1,308 @@
+//! The service over its store: requests in a row, each on a connection of its own.
+use crate::plain_requests::reply_answer;
+use crate::request_turns::{self, Counted, Limit, take_turns};
+use crate::service::StoredService;
+use case_lines::{Answer, Trouble, as_number, as_text};
+use http::StatusCode;
+use ports_core::{Config, Event, Service, Told};
+use ports_http::{Method, Reply};
+use std::alloc::Global;
+use store_cases::{MOST_LIMITS, filled, stops_answer};
+
+/// The keys of the tenants, by their numbers.
+const KEYS: [&str; 2] = ["alpha", "beta"];
+
+/// What a tenant asks.
+#[derive(Clone, Copy)]
+pub struct CaseRequest<'a> {
+    pub tenant: usize,
+    method: Method,
+    target: &'a str,
+    body: &'a [u8],
+}
+
+impl<'a> CaseRequest<'a> {
+    /// The request that a line asks for: its tenant is a number, and its target a text.
+    pub fn read(
+        method: Method,
+        tenant: &[u8],
+        target: &'a [u8],
+        body: &'a [u8],
+    ) -> Result<CaseRequest<'a>, Trouble> {
+        Ok(CaseRequest {
+            tenant: as_number(tenant)? as usize,
+            method,
+            target: as_text(target)?,
+            body,
+        })
+    }
+}
+
+/// How many parses and evaluations are kept if a line doesn't say.
+const SIZES: (u32, u32) = (256, 1024);
+
+/// `new service`, `new service PARSES EVALS`: for the tenants 0 and 1, with a cache of these sizes.
+pub fn new(alloc: Global, given: &[Vec<u8>]) -> Result<StoredService, Trouble> {
+    Service::new(alloc, config(alloc, given)?).map_err(|_| Trouble::NoCase)
+}
+
+/// The config of the tenants 0 and 1, with a cache of these sizes.
+pub fn config(alloc: Global, given: &[Vec<u8>]) -> Result<Config, Trouble> {
+    let mut keys = Vec::new(alloc);
+    for key in KEYS {
+        keys.push(String::from_str(alloc, key)?)?;
+    }
+    let (parses, evals) = sizes(given)?;
+    Ok(Config {
+        keys,
+        parses,
+        evals,
+    })
+}
+
+fn sizes(given: &[Vec<u8>]) -> Result<(u32, u32), Trouble> {
+    match given {
+        [] => Ok(SIZES),
+        [parses, evals] => Ok((size(parses)?, size(evals)?)),
+        _ => Err(Trouble::NoCase),
+    }
+}
+
+fn size(given: &[u8]) -> Result<u32, Trouble> {
+    let size = as_number(given)?;
+    if size > u32::MAX as u64 {
+        return Err(Trouble::NoCase);
+    }
+    Ok(size as u32)
+}
+
+/// What the service answers to requests.
+pub fn answer(
+    alloc: Global,
+    service: &mut StoredService,
+    call: &str,
+    given: &[Vec<u8>],
+) -> Result<Answer, Trouble> {
+    match call {
+        "GET" => asked_answer(alloc, service, Method::Get, given),
+        "PUT" => asked_answer(alloc, service, Method::Put, given),
+        "DELETE" => asked_answer(alloc, service, Method::Delete, given),
+        "units" => units_answer(alloc, service, given),
+        "turns" | "turns stopped in" => request_turns::turns_answer(alloc, service, given),
+        "jobs" => request_turns::jobs_answer(alloc, service, given),
+        "job while" => request_turns::job_while_answer(alloc, service, given),
+        "counts" => counts_answer(alloc, service, given),
+        "fill" => fill(alloc, service, given),
+        "PUT stopped by" => stopped(alloc, service, Method::Put, given),
+        "DELETE stopped by" => stopped(alloc, service, Method::Delete, given),
+        "GET stopped by" => stopped(alloc, service, Method::Get, given),
+        "GET stopped longer than" => stopped_longer(alloc, service, given),
+        "GET stopped at each turn after PUT" | "GET stopped at each turn after GET" => {
+            request_turns::stopped_at_each(alloc, service, given)
+        }
+        _ => Err(Trouble::NoCase),
+    }
+}
+
+/// `service GET TENANT TARGET`, `service PUT TENANT TARGET BODY`, `service DELETE TENANT TARGET`: the
+/// reply.
+fn asked_answer(
+    alloc: Global,
+    service: &mut StoredService,
+    method: Method,
+    given: &[Vec<u8>],
+) -> Result<Answer, Trouble> {
+    let request = match (method, given) {
+        (Method::Put, [tenant, target, body]) => CaseRequest::read(method, tenant, target, body)?,
+        (Method::Get | Method::Delete, [tenant, target]) => {
+            CaseRequest::read(method, tenant, target, &[])?
+        }
+        _ => return Err(Trouble::NoCase),
+    };
+    let reply = ask(alloc, service, request)?;
+    Ok(reply_answer(alloc, &reply))
+}
+
+/// `service units TENANT TARGET`: the status of a GET, and how many units and checked answers all its turns
+/// tell.
+fn units_answer(
+    alloc: Global,
+    service: &mut StoredService,
+    given: &[Vec<u8>],
+) -> Result<Answer, Trouble> {
+    let [tenant, target] = given else {
+        return Err(Trouble::NoCase);
+    };
+    let request = CaseRequest::read(Method::Get, tenant, target, &[])?;
+    let told = ask_within(alloc, service, request, Limit::Never)?;
+    let mut answer = Answer::of_word(alloc, told.reply.status.as_str());
+    answer.number(told.units());
+    answer.number(told.checks());
+    Ok(answer)
+}
+
+/// `service counts`: how often a parse was used that was kept, and how often an evaluation.
+fn counts_answer(
+    alloc: Global,
+    service: &StoredService,
+    given: &[Vec<u8>],
+) -> Result<Answer, Trouble> {
+    if !given.is_empty() {
+        return Err(Trouble::NoCase);
+    }
+    let counts = service.counts();
+    let mut answer = Answer::new(alloc);
+    answer.number(counts.parses);
+    answer.number(counts.evals);
+    Ok(answer)
+}
+
+/// The reply to a request on a new connection, which is lost after the request.
+pub fn ask(
+    alloc: Global,
+    service: &mut StoredService,
+    request: CaseRequest<'_>,
+) -> Result<Reply, Trouble> {
+    let told = ask_within(alloc, service, request, Limit::Never)?;
+    Ok(told.reply)
+}
+
+/// The same, with what each of its turns tells as spent. In some turns the store's steps are limited.
+pub fn ask_within(
+    alloc: Global,
+    service: &mut StoredService,
+    request: CaseRequest<'_>,
+    limit: Limit,
+) -> Result<Counted, Trouble> {
+    let conn = send(alloc, service, request)?;
+    let counted = take_turns(alloc, service, request.tenant, limit)?;
+    let _lost = happen(service, &Event::Fault(conn))?;
+    Ok(counted)
+}
+
+/// Sends a request on a new connection, whose number it gives.
+pub fn send(
+    alloc: Global,
+    service: &mut StoredService,
+    request: CaseRequest<'_>,
+) -> Result<u64, Trouble> {
+    let conn = service.next_conn();
+    let piece = Event::Piece(conn, stream_of(alloc, request)?);
+    let _opened = happen(service, &Event::Open(conn))?;
+    let _came = happen(service, &piece)?;
+    Ok(conn)
+}
+
+/// What an event tells.
+pub fn happen(service: &mut StoredService, event: &Event) -> Result<Told, Trouble> {
+    if !service.allows(event) {
+        return Err(Trouble::NoCase);
+    }
+    Ok(service.step(event))
+}
+
+/// The bytes of a request.
+fn stream_of(alloc: Global, request: CaseRequest<'_>) -> Result<Vec<u8>, Trouble> {
+    let Some(key) = KEYS.get(request.tenant) else {
+        return Err(Trouble::NoCase);
+    };
+    let (method, target, length) = (request.method.as_str(), request.target, request.body.len());
+    let head = format!(in alloc;
+        "{method} {target} HTTP/1.1\r\nHost: x\r\nX-Ports-Key: {key}\r\nContent-Length: {length}\r\n\r\n"
+    )?;
+    let mut bytes = Vec::from_slice(alloc, head.as_bytes())?;
+    bytes.extend_from_slice(request.body)?;
+    Ok(bytes)
+}
+
+/// `service fill TENANT N BYTES`: how many of N files of these bytes are stored, and the
+/// reply to the first that isn't.
+fn fill(alloc: Global, service: &mut StoredService, given: &[Vec<u8>]) -> Result<Answer, Trouble> {
+    let [tenant, count, body] = given else {
+        return Err(Trouble::NoCase);
+    };
+    let count = as_number(count)?;
+    for number in 0..count {
+        let target = format!(in alloc; "/v1/file?name=/f/{number}")?;
+        let request = CaseRequest::read(Method::Put, tenant, target.as_bytes(), body)?;
+        let reply = ask(alloc, service, request)?;
+        if reply.status != StatusCode::OK {
+            let mut answer = filled(alloc, number, reply.status.as_str());
+            answer.text(reply.body());
+            return Ok(answer);
+        }
+    }
+    Ok(filled(alloc, count, "stored"))
+}
+
+/// `service PUT stopped TENANT TARGET BODY by PROBE`, `service DELETE stopped TENANT TARGET by PROBE`: the
+/// request under a limit of 1, 2, 3 .. steps of the store until it isn't answered 503. It gives whether a
+/// GET of the probe gave after each 503 what it gave before, and each 503 told nothing as spent; and the last
+/// status.
+fn stopped(
+    alloc: Global,
+    service: &mut StoredService,
+    method: Method,
+    given: &[Vec<u8>],
+) -> Result<Answer, Trouble> {
+    let (tenant, target, body, probe) = match (method, given) {
+        (Method::Put, [tenant, target, body, probe]) => (tenant, target, body.as_slice(), probe),
+        (Method::Get | Method::Delete, [tenant, target, probe]) => {
+            (tenant, target, b"".as_slice(), probe)
+        }
+        _ => return Err(Trouble::NoCase),
+    };
+    let request = CaseRequest::read(method, tenant, target, body)?;
+    let probe = CaseRequest::read(Method::Get, tenant, probe, &[])?;
+    stopped_by(alloc, service, request, probe)
+}
+
+fn stopped_by(
+    alloc: Global,
+    service: &mut StoredService,
+    request: CaseRequest<'_>,
+    probe: CaseRequest<'_>,
+) -> Result<Answer, Trouble> {
+    let was = ask(alloc, service, probe)?;
+    let mut is_kept = true;
+    for steps in 1..MOST_LIMITS {
+        let told = ask_within(alloc, service, request, Limit::InAll(steps))?;
+        if told.reply.status != StatusCode::SERVICE_UNAVAILABLE {
+            return Ok(stops_answer(alloc, steps, is_kept, told.reply.status.as_str()));
+        }
+        let is_same = ask(alloc, service, probe)?.body() == was.body();
+        is_kept = is_kept && told.is_free_at_last() && is_same;
+    }
+    Err(Trouble::NoCase)
+}
+
+/// `service GET stopped TENANT TARGET longer than TARGET`: `longer`, if the first GET is answered 503 under a
+/// limit of more steps than the second, and else `no longer`.
+fn stopped_longer(
+    alloc: Global,
+    service: &mut StoredService,
+    given: &[Vec<u8>],
+) -> Result<Answer, Trouble> {
+    let [tenant, target, other] = given else {
+        return Err(Trouble::NoCase);
+    };
+    let first = CaseRequest::read(Method::Get, tenant, target, &[])?;
+    let other = CaseRequest::read(Method::Get, tenant, other, &[])?;
+    let is_longer = steps_needed(alloc, service, first)? > steps_needed(alloc, service, other)?;
+    Ok(Answer::of_word(alloc, if is_longer { "longer" } else { "no longer" }))
+}
+
+/// The least limit of steps under which a request isn't answered 503.
+fn steps_needed(
+    alloc: Global,
+    service: &mut StoredService,
+    request: CaseRequest<'_>,
+) -> Result<u64, Trouble> {
+    for steps in 1..MOST_LIMITS {
+        let told = ask_within(alloc, service, request, Limit::InAll(steps))?;
+        if told.reply.status != StatusCode::SERVICE_UNAVAILABLE {
+            return Ok(steps);
+        }
+    }
+    Err(Trouble::NoCase)
+}

@@ -1,0 +1,70 @@
+//! The service on a socket, with one client in the same process.
+use crate::http_calls::bytes_answer;
+use crate::service::service_of_one;
+use crate::socket_clients::{Clients, WithClients, listening};
+use case_lines::{Answer, Trouble};
+use mio::net::TcpStream;
+use ports_serve::serve;
+use std::alloc::Global;
+use std::io::{Read, Write};
+use std::net::{Net, SocketAddr};
+
+/// How many rounds a client is served.
+const ROUNDS: u32 = 200;
+
+/// One client.
+#[derive(Drop)]
+struct Client {
+    stream: TcpStream,
+    unsent: Vec<u8>,
+    taken: Vec<u8>,
+    is_closed: bool,
+}
+
+impl Client {
+    /// A client of what listens on the address, which is to send these bytes.
+    fn connect(
+        alloc: Global,
+        net: &impl Net,
+        address: SocketAddr,
+        sent: &[u8],
+    ) -> Result<Client, Trouble> {
+        Ok(Client {
+            stream: TcpStream::connect(net, address).map_err(|_| Trouble::NoCase)?,
+            unsent: Vec::from_slice(alloc, sent)?,
+            taken: Vec::new(alloc),
+            is_closed: false,
+        })
+    }
+}
+
+impl Clients for Client {
+    /// Sends what the socket takes, and takes what has come, or learns that nothing more will.
+    fn step(&mut self) {
+        if let Ok(count) = self.stream.write(self.unsent.as_slice()) {
+            self.unsent.drain(..count);
+        }
+        let mut bytes = [0; 256];
+        if let Ok(count) = self.stream.read(&mut bytes) {
+            self.is_closed |= count == 0;
+            let _ = self.taken.extend_from_slice(&bytes[..count]);
+        }
+    }
+}
+
+/// `loopback BYTES`: what a client that sends these bytes over a socket is sent, within 200 rounds of a
+/// service with the key `alpha`, and whether its connection is then `open` or `closed`.
+pub fn answered(alloc: Global, net: &impl Net, given: &[Vec<u8>]) -> Result<Answer, Trouble> {
+    let [sent] = given else {
+        return Err(Trouble::NoCase);
+    };
+    let service = service_of_one(alloc)?;
+    let (sockets, address) = listening(alloc, net, 0)?;
+    let clients = Client::connect(alloc, net, address, sent.as_slice())?;
+    let mut wire = WithClients { sockets, clients };
+    let _service = serve(alloc, &mut wire, service, ROUNDS)?;
+    let client = wire.clients;
+    let mut answer = bytes_answer(alloc, client.taken.as_slice());
+    answer.word(if client.is_closed { "closed" } else { "open" });
+    Ok(answer)
+}
