@@ -1,5 +1,6 @@
 -- What a look for an evaluation gives, by what is kept and by the files.
 use Rattle.std.specs.Prelude.{Result, ℕ, IfOk, ◌≡◌, List, OnOk, IfErr, Option, is_some, IfSome, ◌≤◌}
+use Rattle.turn_amounts.specs.declared.TheConstants.{MOST_CHECKS}
 use Rattle.std.specs.declared.rc.Rc.{Rc}
 use Rattle.std.specs.Global.{Global}
 use Rattle.eval_cache.specs.declared.look.Look.{Look}
@@ -7,7 +8,7 @@ use Rattle.mk_paths.specs.World.{FileMap}
 use Rattle.eval_cache.specs.Cache.{CacheValue, traces_at, count_look}
 use Rattle.eval_cache.specs.declared.key.EvalKey.{EvalKey}
 use Rattle.eval_cache.specs.Look.{IsFound, agreeing, ChecksAmong, FailsAmong, IsAgreed}
-use Rattle.eval_cache.specs.Keys.{key_of}
+use Rattle.eval_cache.specs.Keys.{Key, key_of}
 use Rattle.mk_paths.specs.FilesView.{FilesView, Question}
 use Rattle.mk_paths.specs.declared.files.FilesFault.{FilesFault}
 use Rattle.eval_cache.specs.CacheOrder.{looked_at}
@@ -15,15 +16,25 @@ use Rattle.read_trace.specs.declared.evaluation.Evaluation.{Evaluation}
 use Rattle.eval_cache.specs.Held.{IsOneOf}
 use Rattle.read_trace.specs.Agreement.{IsAnswered}
 
--- where a look succeeds, this was found among the traces that are kept under the key
-abbrev pub FindsByLook : {F : Type 0} → Result (Look × ℕ) F → FileMap → CacheValue → EvalKey → Type 0
-FindsByLook result files cache key =
-    IfOk result (λ found. IsFound files (key_of key) (traces_at cache (key_of key)) found.1 found.0)
+-- A look under a key among files: what was found, after how many checks, and which answers were checked for that. At most as
+-- many are checked as the traces under a key have. A hit is counted, and its key stands first from now on.
+pub record Looks (before after : FilesView) (key : EvalKey) (old new : CacheValue) (found : Look × ℕ) : Type 0 where
+  pub found : IsFound before.files (key_of key) (traces_at old (key_of key)) found.1 found.0
+  pub checks : found.1 ≡ (agreeing before.files (traces_at old (key_of key))).1
+  pub few : found.1 ≤ MOST_CHECKS
+  pub asked : ChecksAmong before (traces_at old (key_of key)) after
+  pub counted : new.counts ≡ count_look found.0 old.counts
+  pub order : new.traces ≡ looked_at found.0 (key_of key) old
 
--- where a look succeeds, it tells how many answers were checked
-abbrev pub TellsChecks : {F : Type 0} → Result (Look × ℕ) F → FileMap → CacheValue → EvalKey → Type 0
-TellsChecks result files cache key =
-    IfOk result (λ found. found.1 ≡ (agreeing files (traces_at cache (key_of key))).1)
+-- where a look succeeds, it is one under this key among these files
+abbrev pub LooksUnder : {F : Type 0} → Result (Look × ℕ) F → FilesView → FilesView → EvalKey → CacheValue → CacheValue → Type 0
+LooksUnder result before after key old new = IfOk result (Looks before after key old new)
+
+-- All that is kept stays, and so does what the cache is used for. Only the counts and the order of keys may change.
+pub record KeepsAllKept (old new : CacheValue) : Type 0 where
+  pub traces : (other : Key) → traces_at new other ≡ traces_at old other
+  pub parses : new.contents ≡ old.contents
+  pub purpose : new.purpose ≡ old.purpose
 
 -- where a function succeeds, it asked the files what checks these traces
 abbrev pub AsksToCheck : {R F : Type 0} → Result R F → FilesView → FilesView → List (List Question) → Type 0
@@ -36,14 +47,6 @@ AsksChecks result old new cache key = AsksToCheck result old new (traces_at cach
 -- if a function fails, some questions were asked again, and this is why no more were
 abbrev pub FailsChecking : {R : Type 0} → (FilesFault → Type 0) → Result R FilesFault → FilesView → FilesView → Type 0
 FailsChecking may result old new = IfErr result (λ fault. FailsAmong may old new fault)
-
--- where a look succeeds, a hit is counted
-abbrev pub CountsHit : {F : Type 0} → Result (Look × ℕ) F → CacheValue → CacheValue → Type 0
-CountsHit result old new = IfOk result (λ found. new.counts ≡ count_look found.0 old.counts)
-
--- where a look succeeds, what it hit stands first
-abbrev pub PutsHitFirst : {F : Type 0} → Result (Look × ℕ) F → CacheValue → CacheValue → EvalKey → Type 0
-PutsHitFirst result old new key = IfOk result (λ found. new.traces ≡ looked_at found.0 (key_of key) old)
 
 -- where a function succeeds, it tells whether one of these traces agrees with the files, and how many answers were checked
 abbrev pub TellsAgreement : {X F : Type 0} → Result (Option X × ℕ) F → FileMap → List (List Question) → Type 0

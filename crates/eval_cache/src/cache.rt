@@ -10,8 +10,7 @@ ghost use Rattle.eval_cache.specs.Cache.{empty_cache, size_for, holds_parse, tra
 ghost use Rattle.eval_cache.specs.CacheOrder.{Keeps, HandsOut, PutsParse};
 ghost use Rattle.eval_cache.specs.CacheUse.{UsesCache};
 ghost use Rattle.eval_cache.specs.Held.{AreNewest, evaluations_in, GivesParseOf};
-ghost use Rattle.eval_cache.specs.Looks.{FindsByLook, TellsChecks, AsksChecks, FailsChecking, CountsHit};
-ghost use Rattle.eval_cache.specs.Looks.{PutsHitFirst, TellsAgreementAt, FindsAgreed};
+ghost use Rattle.eval_cache.specs.Looks.{AsksChecks, FailsChecking, KeepsAllKept, LooksUnder, TellsAgreementAt, FindsAgreed};
 
 use crate::contents::ContentKey;
 use crate::counts::Counts;
@@ -128,17 +127,10 @@ impl EvalCache {
         key: &EvalKey,
         files: &mut F,
     ) -> Result<(Look, u64), FilesFault>
-        ensures found { FindsByLook result (F.view files.old).files self.old key.now }
-        ensures checked { TellsChecks result (F.view files.old).files self.old key.now }
-        ensures bound { IfOk result (λ found. found.1 ≤ MOST_CHECKS) }
-        ensures asks { AsksChecks result (F.view files.old) (F.view files.new) self.old key.now }
+        ensures looks { LooksUnder result (F.view files.old) (F.view files.new) key.now self.old self.new }
         ensures fails { FailsChecking F.fails_with result (F.view files.old) (F.view files.new) }
-        ensures counted { CountsHit result self.old self.new }
-        ensures order { PutsHitFirst result self.old self.new key.now }
         ensures err { OnErr result (self.new ≡ self.old) }
-        ensures traces { (other : Key) → traces_at self.new other ≡ traces_at self.old other }
-        ensures parses { self.new.contents ≡ self.old.contents }
-        ensures purpose { self.new.purpose ≡ self.old.purpose }
+        ensures kept { KeepsAllKept self.old self.new }
         ensures uses { UsesCache self.old self.new }
     {
         let (found, checked) = self.kept_evaluation(key, files)?;

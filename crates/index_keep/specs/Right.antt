@@ -19,6 +19,8 @@ use Rattle.port_index.specs.Spent.{SpendsOnPath}
 use Rattle.turn_amounts.specs.declared.spent.Spent.{Spent}
 use Rattle.read_trace.specs.Recorder.{view_of}
 use Rattle.read_trace.specs.declared.recorder.Recorder.{Recorder}
+use Rattle.eval_cache.specs.Cache.{CacheValue}
+use Rattle.eval_cache.specs.CacheUse.{UsesCache}
 use Rattle.index_row.specs.Rows.{RowValue}
 use Rattle.index_keep.specs.Shown.{ShownRow, ShownRows, fresh}
 
@@ -100,3 +102,8 @@ asked_world view files settings = view_world (view_of view files) settings
 abbrev pub LeavesAskedFiles : {F A : Type 0} {asked : names.Ghosts F}
     → (F → FilesView) → Result A FilesFault → Recorder F asked → Recorder F asked → Type 0
 LeavesAskedFiles view result old new = LeavesFiles (result_err result) (view_of view old) (view_of view new)
+
+-- what work that asks a cache for evaluations leaves of the files that a recorder asks, and of the cache
+abbrev pub UsesFilesAndCache : {F A : Type 0} {asked : names.Ghosts F} → (F → FilesView) → Result A FilesFault
+    → Recorder F asked → Recorder F asked → CacheValue → CacheValue → Type 0
+UsesFilesAndCache view result old new before after = LeavesAskedFiles view result old new × UsesCache before after

@@ -8,7 +8,7 @@ ghost use Rattle.index_row.specs.Seen.{kept_row_seen};
 ghost use Rattle.eval_ask.specs.Ask.{HasBegun};
 ghost use Rattle.index_keep.specs.Shown.{said_by, shown_in, ShowsSame};
 ghost use Rattle.index_keep.specs.Profiles.{KeeperWrites, WritesIn, WritesNoRow, profiles_of};
-ghost use Rattle.index_keep.specs.Right.{LeavesAskedFiles};
+ghost use Rattle.index_keep.specs.Right.{LeavesAskedFiles, UsesFilesAndCache};
 ghost use Rattle.index_keep.specs.Paths.{IsUpTo};
 ghost use Rattle.index_keep.specs.Keeper.{begun_in, keeper_rows, DropsKeeperTurn, IsDone};
 ghost use Rattle.index_keep.specs.Keeper.{IsKeptOver, RunsTurn, StaysKept};
@@ -84,8 +84,7 @@ impl<R: PathRows + Drop> Keeper<R> {
         ensures err { OnErr result (DropsKeeperTurn R.entries self.old self.new) }
         ensures kept { IsKeptOver F.view R.entries files.old settings.now self.new }
         ensures profiles { KeeperWrites R.profiles settings.now.profile self.old self.new }
-        ensures leaves { LeavesAskedFiles F.view result files.old files.new }
-        ensures uses { UsesCache cache.old cache.new }
+        ensures leaves { UsesFilesAndCache F.view result files.old files.new cache.old cache.new }
     {
         let given = Given { settings, units };
         match mem::replace(&mut self.progress, Progress::nothing(alloc)) {

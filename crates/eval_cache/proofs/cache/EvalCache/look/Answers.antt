@@ -1,5 +1,5 @@
 -- The evaluations that are kept stay the same.
-use Rattle.std.proofs.Common.{◌∙◌, ap, subst, sym, unwrap_or, []}
+use Rattle.std.proofs.Common.{◌∙◌, ap, subst, sym, rules, unwrap_or, []}
 use Rattle.std.specs.Map.{lookup}
 use Rattle.eval_cache.specs.Keys.{same_key}
 use Rattle.eval_cache.specs.Cache.{traces_at}
@@ -16,14 +16,35 @@ invariant_of-self g c = record {
   evaluations = subst (λ cache. AreRightForKeys cache.entries) (sym c.promote-there.ensures.entries) (AreRightForKeys-promoted c.self.inside.evals.entries c.args.key.now c.self.invariant.evaluations);
 }
 
-pub returns-in-Some-clause-traces : goal.returns-in-Some-clause-traces
-returns-in-Some-clause-traces g c = λ other.
-    ap (λ cache. unwrap_or (lookup (same_key other) (traces_by_key cache.entries)) []) c.promote-there.ensures.entries
-    ∙ ap (λ found. unwrap_or found []) (traces-promoted c.self.inside.evals.entries c.args.key.now other)
-    ∙ ap (λ cache. traces_at cache other) c.self.view_is
+pub returns-in-Some-clause-looks : goal.returns-in-Some-clause-looks
+returns-in-Some-clause-looks g c = record {
+  found = search rules;
+  checks = search rules;
+  few = search rules;
+  asked = search rules;
+  counted = search rules;
+  order =
+      ap (λ cache. traces_by_key cache.entries) c.promote-there.ensures.entries
+      ∙ traces-first c.self.inside.evals.entries c.args.key.now
+      ∙ ap (λ cache. promoted (same_key (key_of c.args.key.now)) cache.traces) c.self.view_is;
+}
 
-pub returns-in-Some-clause-order : goal.returns-in-Some-clause-order
-returns-in-Some-clause-order g c =
-    ap (λ cache. traces_by_key cache.entries) c.promote-there.ensures.entries
-    ∙ traces-first c.self.inside.evals.entries c.args.key.now
-    ∙ ap (λ cache. promoted (same_key (key_of c.args.key.now)) cache.traces) c.self.view_is
+pub returns-in-Some-clause-kept : goal.returns-in-Some-clause-kept
+returns-in-Some-clause-kept g c = record {
+  traces = λ other.
+      ap (λ cache. unwrap_or (lookup (same_key other) (traces_by_key cache.entries)) []) c.promote-there.ensures.entries
+      ∙ ap (λ found. unwrap_or found []) (traces-promoted c.self.inside.evals.entries c.args.key.now other)
+      ∙ ap (λ cache. traces_at cache other) c.self.view_is;
+  parses = search rules;
+  purpose = search rules;
+}
+
+pub returns-in-None-clause-looks : goal.returns-in-None-clause-looks
+returns-in-None-clause-looks g c = record {
+  found = search rules;
+  checks = search rules;
+  few = search rules;
+  asked = search rules;
+  counted = search rules;
+  order = search rules;
+}
