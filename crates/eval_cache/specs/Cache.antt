@@ -18,7 +18,8 @@ pub record Sizes : Type 0 where
 
 -- The contents whose parses are kept, and the traces of the evaluations that are kept under each key, with
 -- the newest first. How many of each there may be, how often something that was kept was handed out, and what the
--- cache is used for.
+-- cache is used for. Evaluations and trees aren't part of it: what is kept is right for its key (`IsRight`), so a
+-- trace with which files agree determines the evaluation, and a content its tree.
 pub record CacheValue : Type 0 where
   pub contents : List (List ℕ)
   pub traces : List (Key × List (List Question))

@@ -36,7 +36,8 @@ row_with found questions = record { outcome = found.outcome; cost = found.cost; 
 abbrev pub right_row : World → List ℕ → RowValue
 right_row world path = row_with (finding_at world path) (questions_at world path)
 
--- The row says what was found, and what was asked for that. Each question has the answer that the files give.
+-- The row says what was found, and what was asked for that. Each question has the answer that the files give. So a change
+-- of a file about which none of them asks leaves the row right.
 pub record IsRowOfFinding (files : FileMap) (found : Finding) (questions : List Question) (row : RowValue) : Type 0 where
   pub same : row ≡ row_with found questions
   pub answered : Agrees files questions

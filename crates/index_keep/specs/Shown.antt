@@ -27,7 +27,7 @@ asked_one test row = list_any test row.names
 abbrev pub show_row : (List ℕ → Bool) → Bool → RowValue → ShownRow
 show_row test marked row = record { row = row; stale = marked || asked_one test row }
 
--- the same of stored bytes; bytes that are no row show none
+-- A stored row as it is shown. Bytes that are no row show none: so their path is evaluated again.
 abbrev pub show_stored : (List ℕ → Bool) → StoredValue → Option ShownRow
 show_stored test stored = option_map (show_row test stored.stale) (row_of stored.text)
 

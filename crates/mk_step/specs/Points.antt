@@ -42,7 +42,9 @@ end_from_point files point limit log =
     rest files point.makefile point.frames point.state (record { meter = limited limit point.meter; log = log })
 
 -- The evaluation of a makefile has come to a point, and has asked these questions. With any log, and with any
--- limit that what was spent fits in, the whole evaluation ends as the rest of it does from this point.
+-- limit that what was spent fits in, the whole evaluation ends as the rest of it does from this point: with the same
+-- variables or the same fault, at the same cost, after the same questions. The point is one by its end alone, whether or
+-- not a machine was there.
 pub record HasCome (world : World) (name : List ℕ) (flavors : Option (List (List ℕ))) (asked : List Question) (point : Point)
     : Type 0 where
   pub ends : (limit : ℕ) (log : Option (List Question)) → point.meter.spent ≤ limit → limit ≤ UNITS

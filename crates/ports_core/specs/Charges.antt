@@ -26,7 +26,7 @@ SpendsOnRequest world request spent = SpendsFor world (question_of (plain_reques
 
 -- What a request over a world may have had, in all turns together, while it isn't answered. Its turns are fewer than
 -- the most that its answer may take. Its units are no more than it costs, and its checks are few for each makefile on
--- which its answer rests.
+-- which its answer rests. The most turns of a request that rests on no makefile are 1: so it is answered in its first turn.
 pub record MayHaveHad (world : World) (request : RequestMessage) (had : Job) : Type 0 where
   pub turns : had.turns < most_turns world (plain_request_of request)
   pub units : had.units ≤ cost world (plain_request_of request)

@@ -98,7 +98,8 @@ IsCutTo stream requests (refused fault) = Cuts stream requests (refused fault)
 IsCutTo stream requests closed = Cuts stream requests closed
 
 -- The plain service gives this reply to a request of a tenant in a run. The request is in the tenant's own
--- list. It is asked over the world that the plain service has after the requests before it there.
+-- list. It is asked over the world that the plain service has after the requests before it there. Which place of the list
+-- it has, this doesn't say: by `IsToldPlainly` the replies are told in the order of the list, one for each request.
 pub record IsPlainReply (keys : List (List ℕ)) (events : List Event) (steps : List Effect) (t : ℕ)
     (queued_request : QueuedRequest) (reply : ReplyMessage) : Type 0 where
   pub taken : List QueuedRequest
@@ -155,7 +156,8 @@ IsServedOut (Some connection) end = is_ready connection ≡ true → TakesOff co
 -- answer these requests one for one, and then the head refusal if one ended the stream. What was sent, and
 -- what is pending, is these replies as they are written, in order. If the connection was lost, what was
 -- sent before is a front of them, and nothing is pending. If it was not lost, then once nothing of it waits
--- or is pending, and once it has closed, what is unread begins with no whole request and no head refusal.
+-- or is pending, and once it has closed, what is unread begins with no whole request and no head refusal. Of a connection on
+-- which no byte came this isn't said, since there need not be one with its number.
 pub record ConversesPlainly (keys : List (List ℕ)) (c : ℕ) (events : List Event) (steps : List Effect) (service : State) : Type 0 where
   pub exchanges : List Exchange
   pub waits : List RequestMessage

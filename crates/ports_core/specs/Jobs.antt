@@ -43,7 +43,8 @@ one_turn_more had spent = record {
 abbrev pub job_in : ℕ → List (Option TenantJob) → Option TenantJob
 job_in t jobs = unwrap_or (slice_get jobs t) None
 
--- a job, if there is one, is for the question of this request
+-- A job, if there is one, is for the question of this request. A request behind it may ask the same: but only the first
+-- request of a queue has a job, and the job ends with its reply.
 abbrev pub IsForRequest : RequestMessage → Option TenantJob → Type 0
 IsForRequest request job = ForSome job (λ (under_way : TenantJob). under_way.question ≡ question_of (plain_request_of request))
 

@@ -33,8 +33,8 @@ answers_of [] = []
 answers_of (tell ∷ tells) =
     if is_failure tell.reply.status then answers_of tells else (tell.conn, tell.reply) ∷ answers_of tells
 
--- A tenant's own list: the requests taken, less those answered 503. The k-th reply told to the tenant
--- answers the k-th request taken.
+-- A tenant's own list: the requests taken, less those answered 503. A queue is answered in its order, so the two lists
+-- are paired by place: the k-th reply told to the tenant answers the k-th request taken.
 abbrev pub own_of : List QueuedRequest → List Tell → List QueuedRequest
 own_of [] tells = []
 own_of (queued_request ∷ queued_requests) [] = queued_request ∷ queued_requests

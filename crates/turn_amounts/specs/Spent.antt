@@ -5,7 +5,8 @@ use Rattle.turn_amounts.specs.declared.spent.Spent.{Spent}
 abbrev pub no_spending : Spent
 no_spending = record { units = 0; checks = 0 }
 
--- a count of 64 bits, which goes no higher than its greatest number
+-- A count of 64 bits, which goes no higher than its greatest number. What one evaluation, record or value costs is far
+-- below it. What many requests or paths cost together may reach it.
 abbrev pub counted : ℕ → ℕ
 counted n = min n (2 ^ 64 - 1)
 
