@@ -67,8 +67,9 @@ impl Model for EvalCache {
 }
 
 impl EvalCache {
-    /// A cache that holds nothing yet, and never more than so many parses and the evaluations of so many
-    /// keys. A size of 0 counts as 1. It is used for asking at first. It fails only if memory runs out.
+    /// A cache that holds no parse and no evaluation yet. It never holds more than so many parses and the
+    /// evaluations of so many keys. A size of 0 counts as 1. It is used for asking at first. It fails only if
+    /// memory runs out.
     pub fn new(alloc: Global, parses: usize, evals: usize) -> Result<EvalCache, AllocError>
         ensures { IfOk result (λ cache. cache ≡ empty_cache parses evals) }
     {
@@ -84,7 +85,7 @@ impl EvalCache {
         })
     }
 
-    /// Says what the cache is used for from now on. What is kept stays as it is.
+    /// Says what the cache of parses and evaluations is used for from now on. What is kept stays as it is.
     pub fn serve(&mut self, purpose: Purpose)
         ensures purpose { self.new ≡ record self.old { purpose = purpose } }
         ensures uses { UsesCache self.old self.new }
@@ -92,7 +93,7 @@ impl EvalCache {
         self.purpose = purpose;
     }
 
-    /// How many parses are kept.
+    /// How many parses the cache keeps.
     pub fn parses_kept(&self) -> usize
         ensures kept { result ≡ length self.now.contents }
         ensures within { result ≤ self.now.sizes.parses }
@@ -100,7 +101,7 @@ impl EvalCache {
         self.parses.len()
     }
 
-    /// Under how many keys evaluations are kept.
+    /// Under how many keys the cache keeps evaluations.
     pub fn keys_kept(&self) -> usize
         ensures kept { result ≡ length self.now.traces }
         ensures within { result ≤ self.now.sizes.keys }
@@ -108,15 +109,15 @@ impl EvalCache {
         self.evals.len()
     }
 
-    /// How often something that was kept was used.
+    /// How often a parse or an evaluation that the cache kept was used.
     pub fn counts(&self) -> Counts
         ensures { result ≡ self.now.counts }
     {
         self.counts
     }
 
-    /// Looks for the evaluation of this key among those that are kept, by the answers of the files. The
-    /// newest is tried first, and each up to the first answer that differs. The result is what was found,
+    /// Looks for the evaluation of this key among those that the cache keeps, by the answers of the files.
+    /// The newest is tried first, and each up to the first answer that differs. The result is what was found,
     /// and how many answers were checked: at least one if something was found. Nothing that is kept goes. If
     /// something was found, its key is now the one that was used last.
     ///
@@ -145,10 +146,10 @@ impl EvalCache {
         }
     }
 
-    /// Keeps an evaluation that is right for the key, as the newest one there. The oldest one goes if there
-    /// are more than four. If there are too many keys, the one that stands last is dropped. The key goes to the front,
-    /// as the one that was used last. But if a walk fills the cache with it, it goes to the end: it is dropped next,
-    /// unless it is used before.
+    /// Keeps in the cache an evaluation that is right for the key, as the newest one there. If there are more
+    /// than four, the oldest one goes. If there are too many keys, the one that stands last is dropped. The
+    /// key goes to the front, as the one that was used last. But if a walk fills the cache with it, it goes
+    /// to the end: it is dropped next, unless it is used before.
     ///
     /// If there is no memory to keep it, it isn't kept, and others of the key may go. It isn't kept either if its
     /// trace has no answer, or more than a trace may have. Right for a key is what its makefile means in some files,
@@ -169,8 +170,8 @@ impl EvalCache {
         put_new(&mut self.evals, self.purpose, key, kept);
     }
 
-    /// The parse that is kept for this content, or else a new one, which is then kept if there is memory for
-    /// that.
+    /// The parse that the cache keeps for this content, or else a new one, which is then kept if there is
+    /// memory for that.
     fn kept_or_new(&mut self, content: &Content) -> Result<Parse, AllocError>
         ensures tree { IfOk result (λ found. tree_or_fault found ≡ parsed content.now) }
         ensures handed { OnOk result (HandsOut content.now self.old self.new) }
@@ -193,7 +194,7 @@ impl EvalCache {
         }
     }
 
-    /// The parse that is kept for this content, if one is.
+    /// The parse that the cache keeps for this content, if it keeps one.
     fn kept_parse(&self, key: &ContentKey) -> Result<Option<Parse>, AllocError>
         ensures held { IfOk result (λ found. is_some found ≡ holds_parse self.now key.now.content) }
         ensures tree { GivesParseOf result key.now.content }
@@ -204,7 +205,8 @@ impl EvalCache {
         }
     }
 
-    /// Keeps the parse of a content, if there is memory for that. If a walk fills the cache with it, it stands last.
+    /// Keeps the parse of a content in the cache, if there is memory for that. If a walk fills the cache with
+    /// it, it stands last.
     fn keep_parse(&mut self, key: ContentKey, parse: &Parse)
         requires tree { tree_or_fault parse.now ≡ parsed key.content }
         requires anew { holds_parse self.old key.content ≡ false }
@@ -220,8 +222,8 @@ impl EvalCache {
         put_new(&mut self.parses, self.purpose, key, parse);
     }
 
-    /// The first evaluation that is kept under the key and whose trace agrees with the files, and how many
-    /// answers were checked.
+    /// The first evaluation that the cache keeps under the key and whose trace agrees with the files, and how
+    /// many answers were checked.
     fn kept_evaluation<F: Files>(
         &self,
         key: &EvalKey,
@@ -249,11 +251,11 @@ impl Parses for EvalCache {
 
     ghost goes_on = { AsksParses-on };
 
-    /// The tree of a file with this content, or its fault: the one that is kept, or else a new one, which
-    /// is then kept if there is memory for that. If there are too many, the one that stands last is dropped. The one
-    /// that is handed out goes to the front. But if a walk fills the cache with a new one, it goes to the end: it is
-    /// dropped next, unless it is used before. It fails only if memory for the tree runs out, or if no more can share
-    /// it.
+    /// The tree of a makefile with this content, or its fault: the parse that the cache keeps, or else a new
+    /// one, which is then kept if there is memory for that. If there are too many, the one that stands last
+    /// is dropped. The one that is handed out goes to the front. But if a walk fills the cache with a new
+    /// one, it goes to the end: it is dropped next, unless it is used before. It fails only if memory for the
+    /// tree runs out, or if no more can share it.
     fn parsed(&mut self, content: &Content) -> Result<Parse, AllocError>
         ensures tree { IfOk result (λ found. tree_or_fault found ≡ parsed content.now) }
         ensures left { AsksParses self.old self.new }
@@ -265,7 +267,7 @@ impl Parses for EvalCache {
     }
 }
 
-/// The size that is asked for, of which 0 counts as 1.
+/// How many parses or keys the cache may hold, if this size is asked for: 0 counts as 1.
 fn capacity(size: usize) -> NonZeroUsize
     ensures { non_zero_usize_get result ≡ size_for size }
 {
@@ -275,7 +277,7 @@ fn capacity(size: usize) -> NonZeroUsize
     }
 }
 
-/// The tree of a file with this content, or its fault.
+/// A new parse for the cache: the tree of a makefile with this content, or its fault.
 fn parse_anew(alloc: Global, content: &Content) -> Result<Parse, AllocError>
     ensures { IfOk result (λ found. tree_or_fault found ≡ parsed content.now) }
 {
@@ -286,7 +288,7 @@ fn parse_anew(alloc: Global, content: &Content) -> Result<Parse, AllocError>
     }
 }
 
-/// The same parse once more, with the same tree.
+/// A parse of the cache once more, with the same tree.
 fn share(parse: &Parse) -> Result<Parse, AllocError>
     ensures { IfOk result (λ shared. tree_or_fault shared ≡ tree_or_fault parse.now) }
 {
@@ -296,8 +298,8 @@ fn share(parse: &Parse) -> Result<Parse, AllocError>
     }
 }
 
-/// An evaluation before older ones of its key, of which the newest stay. If there is no memory for it, there are
-/// older ones alone.
+/// The evaluations that the cache keeps under a key: this one before older ones, of which the newest stay. If
+/// there is no memory for it, there are older ones alone.
 fn with_newest(
     alloc: Global,
     older: Option<Vec<Rc<Evaluation>>>,

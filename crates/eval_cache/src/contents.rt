@@ -1,4 +1,4 @@
-//! Contents as keys of parses.
+//! The contents of makefiles as keys of the parses in a cache.
 ghost use Rattle.std.specs.Prelude.{◌≡◌, nat_eq};
 ghost use Rattle.std.proofs.Common.{rules};
 ghost use Rattle.std.specs.Cmp.Lexicographic.{pointwise};
@@ -19,6 +19,7 @@ pub(crate) struct ContentKey {
 impl Clone for ContentKey {
     ghost is_clone = { λ key clone. clone.content ≡ key.content };
 
+    /// A copy of the key of a parse, which shares the content.
     fn clone(&self) -> Result<ContentKey, AllocError> {
         Ok(ContentKey {
             content: self.content.share()?,
@@ -31,6 +32,7 @@ impl PartialEq for ContentKey {
 
     ghost laws = { Prim.search (comparing, rules) };
 
+    /// Whether two keys of parses are equal: whether their contents have the same bytes.
     fn eq(&self, other: &ContentKey) -> bool {
         self.content.as_slice() == other.content.as_slice()
     }
@@ -45,6 +47,7 @@ impl Hash for ContentKey {
 
     ghost respects_eq = { Prim.search (hashing, rules) };
 
+    /// Adds the bytes of the content, which is the key of a parse, to a hash.
     fn hash<H: Hasher>(&self, state: &mut H) {
         self.content.as_slice().hash(state);
     }

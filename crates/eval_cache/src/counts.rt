@@ -1,4 +1,4 @@
-//! How often something that was kept was used.
+//! How often a parse or an evaluation that was kept in a cache was used.
 
 /// How often something that was kept was used. Each number goes no higher than 2^64 - 1.
 #[derive(Clone, Copy, Debug, PartialEq, Eq)]

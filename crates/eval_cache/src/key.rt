@@ -1,4 +1,4 @@
-//! Keys of evaluations.
+//! The keys of the evaluations in a cache: settings, a makefile's name and flavors.
 ghost use Rattle.std.specs.Prelude.{◌≡◌};
 ghost use Rattle.eval_cache.specs.Keys.{key_of, MakesKey, CopiesFlavors};
 
@@ -19,7 +19,8 @@ pub struct EvalKey {
 }
 
 impl EvalKey {
-    /// The key of that evaluation. It fails only if memory runs out.
+    /// The key of an evaluation in a cache: of this makefile under these settings, with these flavors or with
+    /// none given. It fails only if memory runs out.
     pub fn new(
         alloc: Global,
         settings: &Settings,
@@ -40,6 +41,7 @@ impl EvalKey {
 impl Clone for EvalKey {
     ghost is_clone = { λ key clone. key_of clone ≡ key_of key };
 
+    /// A copy of the key of an evaluation. It fails only if memory runs out.
     fn clone(&self) -> Result<EvalKey, AllocError> {
         let alloc = *self.trees.allocator();
         Ok(EvalKey {
@@ -54,7 +56,7 @@ impl Clone for EvalKey {
     }
 }
 
-/// The same flavors, or none.
+/// A copy of the flavors for the key of an evaluation, or none.
 fn copy_flavors(
     alloc: Global,
     flavors: Option<&[String]>,

@@ -1,4 +1,4 @@
-//! Evaluations that are kept under one key, looked at in turn.
+//! A look at the evaluations that a cache keeps under one key, one after another.
 ghost use Rattle.std.specs.Prelude.{◌≤◌, IfOk};
 ghost use Rattle.turn_amounts.specs.declared.TheConstants.{MOST_CHECKS};
 ghost use Rattle.eval_cache.specs.Held.{AreShort, traces_of};
@@ -18,7 +18,7 @@ pub enum Look {
     Miss,
 }
 
-/// The first of these evaluations whose trace agrees with the files, and how many answers were checked.
+/// The first of these kept evaluations whose trace agrees with the files, and how many answers were checked.
 /// If the files fail, their fault is returned as it is. It is also `Memory` if no more can share the
 /// evaluation.
 pub(crate) fn first_agreeing<F: Files>(

@@ -1,4 +1,4 @@
-//! What a cache is used for, and what goes first by that.
+//! The purpose that a cache is used for, and what is dropped first by that.
 ghost use Rattle.std.specs.Prelude.{◌≡◌, true, None};
 ghost use Rattle.std.specs.Map.{lookup_entry};
 ghost use Rattle.eval_cache.specs.CacheOrder as spec;
@@ -19,8 +19,8 @@ pub enum Purpose {
     Walking,
 }
 
-/// Puts a value into a table under a key that isn't there yet. If a walk fills the table with it, it goes last, else
-/// first. If there is no memory for that, nothing changes.
+/// Puts a new value into a table of a cache under a key that isn't there yet. If a walk fills the table with
+/// it, it goes last, else first. If there is no memory for that, nothing changes.
 pub(crate) fn put_new<K: Clone + Eq + Hash, V: Drop>(
     table: &mut LruCache<K, V>,
     purpose: Purpose,
@@ -44,7 +44,8 @@ pub(crate) fn put_new<K: Clone + Eq + Hash, V: Drop>(
     let _last = table.demote(&same);
 }
 
-/// Whether something new goes last in this table: it comes on a walk, and fills the table.
+/// Whether something new goes last in a table of a cache, by the cache's purpose: it comes on a walk, and
+/// fills the table.
 fn goes_last<K: Eq + Hash, V>(table: &LruCache<K, V>, purpose: Purpose) -> bool
     ensures { result ≡ spec.goes_last purpose table.now.cap table.now.entries }
 {

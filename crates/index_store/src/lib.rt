@@ -1,4 +1,4 @@
-//! The rows of one tenant's index, in a database in memory.
+//! The rows of one tenant's index by their paths, in a database in memory of its own.
 #![tactic(auto)]
 
 mod path_rows;

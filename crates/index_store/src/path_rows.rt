@@ -1,4 +1,4 @@
-//! The rows of an index, as those that keep them ask for them.
+//! The rows of an index by their paths, as the keeper of an index asks for them.
 ghost use Rattle.std.specs.Prelude.{ℕ, List, Option, IfOk, OnOk, OnErr};
 ghost use Rattle.index_store.specs.Entries.{StoredValue, AreStored, AreStoredPaths};
 ghost use Rattle.index_store.specs.Entries.{SameRows, PutsRow, MarksStale, MarksAll, DropsRows};
@@ -30,47 +30,48 @@ pub trait PathRows {
 
     ghost profiles: { Self → List ℕ → Option kinds.Profile };
 
-    /// All rows, in any order.
+    /// All rows of the index, in any order.
     fn rows(&mut self, alloc: Global) -> Result<Vec<StoredRow>, FilesFault>
         ensures rows { IfOk result (AreStored (entries self.old)) }
         ensures same { SameRows (entries self.old) (entries self.new) }
         ensures profiles { SameProfiles (profiles self.old) (profiles self.new) };
 
-    /// The paths of all rows, in any order, without their bytes.
+    /// The paths of all rows of the index, in any order, without their bytes.
     fn paths(&mut self, alloc: Global) -> Result<Vec<String>, FilesFault>
         ensures paths { IfOk result (AreStoredPaths (entries self.old)) }
         ensures same { SameRows (entries self.old) (entries self.new) }
         ensures profiles { SameProfiles (profiles self.old) (profiles self.new) };
 
-    /// Gives a path this row, which isn't stale and is written with this profile, whether or not it had one.
+    /// Gives a path of the index this row, which isn't stale and is written with this profile, whether or not
+    /// the path had one.
     fn put(&mut self, path: &str, profile: Profile, text: &[u8]) -> Result<(), FilesFault>
         ensures ok { OnOk result (PutsRow path.now text.now (entries self.old) (entries self.new)) }
         ensures profile { OnOk result (WritesWith profiles path.now profile self.old self.new) }
         ensures err { OnErr result (SameRows (entries self.old) (entries self.new)) }
         ensures err_profiles { OnErr result (KeepsProfiles profiles self.old self.new) };
 
-    /// Marks the rows of these paths stale. A path without a row is passed over.
+    /// Marks the rows of these paths of the index stale. A path without a row is passed over.
     fn mark(&mut self, paths: &[String]) -> Result<(), FilesFault>
         ensures ok { OnOk result (MarksStale paths.now (entries self.old) (entries self.new)) }
         ensures err { OnErr result (SameRows (entries self.old) (entries self.new)) }
         ensures profiles { SameProfiles (profiles self.old) (profiles self.new) };
 
-    /// Marks all rows stale.
+    /// Marks all rows of the index stale.
     fn mark_all(&mut self) -> Result<(), FilesFault>
         ensures ok { OnOk result (MarksAll (entries self.old) (entries self.new)) }
         ensures err { OnErr result (SameRows (entries self.old) (entries self.new)) }
         ensures profiles { SameProfiles (profiles self.old) (profiles self.new) };
 
-    /// Takes out the rows of these paths. A path without a row is passed over.
+    /// Takes the rows of these paths out of the index. A path without a row is passed over.
     fn take_out(&mut self, paths: &[String]) -> Result<(), FilesFault>
         ensures ok { OnOk result (DropsRows entries paths.now self.old self.new) }
         ensures profiles { OnOk result (DropsProfiles profiles paths.now self.old self.new) }
         ensures err { OnErr result (SameRows (entries self.old) (entries self.new)) }
         ensures err_profiles { OnErr result (KeepsProfiles profiles self.old self.new) };
 
-    /// Limits the steps of each later statement; with `None` they are no longer limited. If a statement
-    /// would take more steps, it is refused as `Store`. The end of a transaction takes no steps. This
-    /// changes nothing that is stored.
+    /// Limits the steps of each later statement on the rows of the index; with `None` they are no longer
+    /// limited. If a statement would take more steps, it is refused as `Store`. The end of a transaction
+    /// takes no steps. This changes nothing that is stored.
     fn limit_steps(&mut self, limit: Option<u64>)
         ensures same { SameRows (entries self.old) (entries self.new) }
         ensures profiles { SameProfiles (profiles self.old) (profiles self.new) };

@@ -1,4 +1,4 @@
-//! Reading what the statements show.
+//! The rows of the index, read from both of its tables.
 ghost use Rattle.std.specs.Prelude.{◌≡◌, IfOk, OnOk};
 ghost use Rattle.sql_facts.specs.States.{Stays, state_of};
 ghost use Rattle.index_store.specs.Entries.{AreStored, stored_seen};
@@ -9,6 +9,7 @@ use crate::statements::{Part, all_rows};
 use sqlite::{Connection, Error, MemStore, Row};
 use std::alloc::Global;
 
+/// A row of the index, read from what the query gives: its path, whether it is stale, and its bytes.
 fn row_from(row: &Row) -> Result<StoredRow, Error>
     ensures { IfOk result (λ stored. stored_seen stored ≡ row_shown row.now) }
 {
@@ -19,7 +20,8 @@ fn row_from(row: &Row) -> Result<StoredRow, Error>
     })
 }
 
-/// Adds these rows. Each goes once it is read, so that the next takes its place in memory.
+/// Adds the rows of the index that a query gave, each as it is read. A row of the query goes once it is read,
+/// so that the next takes its place in memory.
 fn add_rows(stored: &mut Vec<StoredRow>, rows: Vec<Row>) -> Result<(), Error>
     ensures { OnOk result (AddsShown rows.items stored.old.items stored.new.items) }
 {
@@ -30,7 +32,8 @@ fn add_rows(stored: &mut Vec<StoredRow>, rows: Vec<Row>) -> Result<(), Error>
     Ok(())
 }
 
-/// All rows of both tables. Without `has_earlier` that of the release before has none.
+/// All rows of the index, read from both tables. Without `has_earlier` the table of the release before has
+/// none.
 pub(crate) fn read_rows(
     conn: &mut Connection<MemStore>,
     has_earlier: bool,

@@ -1,4 +1,4 @@
-//! The statements on the two tables of the rows.
+//! The SQL statements on the two tables of the rows of an index.
 ghost use Rattle.std.specs.Prelude.{◌≡◌, [], None, IfOk, OnOk, false};
 ghost use Rattle.sql_facts.specs.Tables.{no_schema};
 ghost use Rattle.sql_facts.specs.States.{IsOpen, KeepsCommit, Stays, state_of};
@@ -22,7 +22,7 @@ pub(crate) enum Part {
 }
 
 impl Part {
-    /// The query of all rows.
+    /// The query of all rows of one of the index's two tables.
     fn rows_query(self) -> &'static str
         ensures { result.now ≡ select_rows self }
     {
@@ -32,7 +32,7 @@ impl Part {
         }
     }
 
-    /// The statement that marks the row of a path.
+    /// The statement that marks the row of a path in one of the index's two tables.
     fn mark_statement(self) -> &'static str
         ensures { result.now ≡ mark_row self }
     {
@@ -42,7 +42,7 @@ impl Part {
         }
     }
 
-    /// The statement that marks all rows stale.
+    /// The statement that marks all rows of one of the index's two tables stale.
     fn marks_statement(self) -> &'static str
         ensures { result.now ≡ mark_rows self }
     {
@@ -52,7 +52,7 @@ impl Part {
         }
     }
 
-    /// The statement that takes out the rows that are marked so.
+    /// The statement that deletes the rows marked as leaving from one of the index's two tables.
     fn delete_statement(self) -> &'static str
         ensures { result.now ≡ delete_rows self }
     {
@@ -73,7 +73,7 @@ pub(crate) enum Mark {
 }
 
 impl Mark {
-    /// The number of the mark in a table.
+    /// The number of a row's mark (stale or leaving) in a table of the index.
     fn number(self) -> u32
         ensures { result ≡ mark_number self }
     {
@@ -84,7 +84,7 @@ impl Mark {
     }
 }
 
-/// Makes the table of the release before, without a row.
+/// The statement that makes the index's table of the release before, without a row.
 pub(crate) fn create_earlier(conn: &mut Connection<MemStore>) -> Result<(), Error>
     requires autocommit { (state_of conn.old).in_transaction ≡ false }
     requires schema { (state_of conn.old).now.schema ≡ no_schema }
@@ -99,7 +99,7 @@ pub(crate) fn create_earlier(conn: &mut Connection<MemStore>) -> Result<(), Erro
     Ok(())
 }
 
-/// Makes the other table, without a row.
+/// The statement that makes the index's table of today, without a row.
 pub(crate) fn create_current(conn: &mut Connection<MemStore>) -> Result<(), Error>
     requires autocommit { (state_of conn.old).in_transaction ≡ false }
     requires schema { (state_of conn.old).now.schema ≡ earlier_schema }
@@ -113,7 +113,7 @@ pub(crate) fn create_current(conn: &mut Connection<MemStore>) -> Result<(), Erro
     Ok(())
 }
 
-/// All rows of a table.
+/// All rows that the query of one of the index's two tables gives.
 pub(crate) fn all_rows(conn: &mut Connection<MemStore>, part: Part) -> Result<Vec<Row>, Error>
     requires { IsTableAtRest (state_of conn.old) }
     ensures rows { IfOk result (AreShown (stored_of (rows_of conn.old part))) }
@@ -122,7 +122,7 @@ pub(crate) fn all_rows(conn: &mut Connection<MemStore>, part: Part) -> Result<Ve
     conn.query_all(part.rows_query(), &[])
 }
 
-/// Adds the row of a path that has none, as the release before wrote it.
+/// The statement that adds the row of a path that has none to the index's table of the release before.
 pub(crate) fn insert_earlier<'x>(
     tx: &mut Transaction<'_, MemStore>,
     path: &'x str,
@@ -141,7 +141,7 @@ pub(crate) fn insert_earlier<'x>(
     Ok(())
 }
 
-/// Adds the row of a path that has none in the table of today.
+/// The statement that adds the row of a path that has none to the index's table of today.
 pub(crate) fn insert_current<'x>(
     tx: &mut Transaction<'_, MemStore>,
     path: &'x str,
@@ -161,8 +161,8 @@ pub(crate) fn insert_current<'x>(
     Ok(())
 }
 
-/// Gives the row of a path in the table of today other bytes and makes it fresh, and says whether there was
-/// one.
+/// The statement that gives the row of a path in the index's table of today other bytes and makes it fresh.
+/// It says whether there was one.
 pub(crate) fn replace_current<'x>(
     tx: &mut Transaction<'_, MemStore>,
     path: &'x str,
@@ -182,7 +182,7 @@ pub(crate) fn replace_current<'x>(
     Ok(count != 0)
 }
 
-/// Marks all rows of a table stale.
+/// Runs the statement that marks all rows of one of the index's two tables stale.
 pub(crate) fn mark_table(tx: &mut Transaction<'_, MemStore>, part: Part) -> Result<(), Error>
     requires { IsOpen IsFormed (state_of tx.old.conn.now) }
     ensures kept { KeepsCommit tx.old.conn tx.new.conn }
@@ -192,7 +192,8 @@ pub(crate) fn mark_table(tx: &mut Transaction<'_, MemStore>, part: Part) -> Resu
     Ok(())
 }
 
-/// Gives the row of a path in a table this mark, if there is one.
+/// Runs the statement that gives the row of a path in one of the index's two tables this mark, if there is
+/// one.
 pub(crate) fn set_mark(
     tx: &mut Transaction<'_, MemStore>,
     part: Part,
@@ -207,7 +208,7 @@ pub(crate) fn set_mark(
     Ok(())
 }
 
-/// Takes out the rows of a table that are marked so.
+/// Runs the statement that deletes the rows marked as leaving from one of the index's two tables.
 pub(crate) fn delete_leaving(tx: &mut Transaction<'_, MemStore>, part: Part) -> Result<(), Error>
     requires { IsOpen IsFormed (state_of tx.old.conn.now) }
     ensures kept { KeepsCommit tx.old.conn tx.new.conn }

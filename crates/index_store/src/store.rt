@@ -1,4 +1,4 @@
-//! The rows of one tenant's index, as its callers see them.
+//! The store of the rows of one tenant's index, as its callers see it.
 ghost use Rattle.std.specs.Prelude.{◌≡◌, not, IfOk, OnOk, OnErr};
 ghost use Rattle.std.specs.BTreeSet.{contains_text};
 ghost use Rattle.index_store.specs.Entries.{HasNoRow, SameRows, KeepsProfiles};
@@ -45,7 +45,7 @@ impl Model for IndexStore {
 }
 
 impl IndexStore {
-    /// A store in which no path has a row.
+    /// The store of an index in which no path has a row.
     ///
     /// The error is `Store` if the database refuses a statement, and `Memory` if memory runs out.
     pub fn open_in_memory(alloc: Global) -> Result<IndexStore, FilesFault>
@@ -62,7 +62,8 @@ impl IndexStore {
         }
     }
 
-    /// Gives a path this row, which isn't stale, as the release before wrote it: without a profile.
+    /// Gives a path of the index this row, which isn't stale, as the release before wrote it: without a
+    /// profile.
     ///
     /// # Errors
     ///
@@ -91,6 +92,7 @@ impl PathRows for IndexStore {
 
     ghost profiles = { profiles_by };
 
+    /// All rows of the index in this store, of both tables.
     fn rows(&mut self, alloc: Global) -> Result<Vec<StoredRow>, FilesFault> {
         match read_rows(&mut self.conn, self.has_earlier, alloc) {
             Ok(rows) => Ok(rows),
@@ -98,10 +100,12 @@ impl PathRows for IndexStore {
         }
     }
 
+    /// The paths of all rows of the index, which are noted in memory beside the database.
     fn paths(&mut self, alloc: Global) -> Result<Vec<String>, FilesFault> {
         Ok(list_of(alloc, &self.paths)?)
     }
 
+    /// Puts this row of a path into the store of the index, in one transaction, and notes the path.
     fn put(&mut self, path: &str, profile: Profile, text: &[u8]) -> Result<(), FilesFault> {
         let is_new = note(self.alloc, &mut self.paths, path)?;
         let change = Change::Put(is_new, path, profile, text);
@@ -114,6 +118,7 @@ impl PathRows for IndexStore {
         }
     }
 
+    /// Marks the rows of these paths in the store of the index stale, in one transaction.
     fn mark(&mut self, paths: &[String]) -> Result<(), FilesFault> {
         match write(&mut self.conn, self.has_earlier, Change::Mark(paths)) {
             Ok(()) => Ok(()),
@@ -121,6 +126,7 @@ impl PathRows for IndexStore {
         }
     }
 
+    /// Marks all rows in the store of the index stale, in one transaction.
     fn mark_all(&mut self) -> Result<(), FilesFault> {
         match write(&mut self.conn, self.has_earlier, Change::MarkAll) {
             Ok(()) => Ok(()),
@@ -128,6 +134,8 @@ impl PathRows for IndexStore {
         }
     }
 
+    /// Takes the rows of these paths out of the store of the index, in one transaction, and forgets the
+    /// paths.
     fn take_out(&mut self, paths: &[String]) -> Result<(), FilesFault> {
         if paths.is_empty() {
             return Ok(());
@@ -139,12 +147,13 @@ impl PathRows for IndexStore {
         Ok(())
     }
 
+    /// Limits the steps of each later statement on the store of the index.
     fn limit_steps(&mut self, limit: Option<u64>) {
         self.conn.set_step_limit(limit);
     }
 }
 
-/// The paths that are noted, as a list.
+/// The noted paths of an index's rows, as a list.
 fn list_of(alloc: Global, noted: &BTreeSet<String>) -> Result<Vec<String>, AllocError>
     ensures { IfOk result (ListsNoted noted.now) }
 {
@@ -155,7 +164,8 @@ fn list_of(alloc: Global, noted: &BTreeSet<String>) -> Result<Vec<String>, Alloc
     Ok(listed)
 }
 
-/// Notes a path, and says whether it wasn't noted before. If memory runs out, nothing changes.
+/// Notes the path of an index's row in memory, and says whether it wasn't noted before. If memory runs out,
+/// nothing changes.
 fn note(alloc: Global, paths: &mut BTreeSet<String>, path: &str) -> Result<bool, AllocError>
     ensures is_new { IfOk result (λ is_new. is_new ≡ not (contains_text paths.old path.now)) }
     ensures noted { OnOk result (NotesPath path.now paths.old paths.new) }
@@ -170,7 +180,7 @@ fn note(alloc: Global, paths: &mut BTreeSet<String>, path: &str) -> Result<bool,
     }
 }
 
-/// Takes a path out of those that are noted, if it is new.
+/// Takes a path out of the noted paths of an index's rows, if it is new.
 fn forget_if(is_new: bool, noted: &mut BTreeSet<String>, path: &str)
     ensures { ForgetsIf is_new path.now noted.old noted.new }
 {
@@ -179,7 +189,7 @@ fn forget_if(is_new: bool, noted: &mut BTreeSet<String>, path: &str)
     }
 }
 
-/// Takes these paths out of those that are noted.
+/// Takes these paths out of the noted paths of an index's rows.
 fn forget(noted: &mut BTreeSet<String>, paths: &[String])
     ensures { ForgetsAll paths.now noted.old noted.new }
 {

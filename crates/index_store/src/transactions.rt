@@ -1,5 +1,5 @@
-//! The calls that write, each in one transaction. With `has_earlier` the table of the release before may have a
-//! row; without it that table has none, and no statement runs on it.
+//! The changes of an index's rows, each in one transaction. With `has_earlier` the table of the release
+//! before may have a row; without it that table has none, and no statement runs on it.
 ghost use Rattle.std.specs.Prelude.{◌≡◌, OnOk, OnErr, IfOk, None, true};
 ghost use Rattle.sql_facts.specs.States.{IsOpen, KeepsCommit, Stays, state_of};
 ghost use Rattle.index_store.specs.PortTable.{IsKeptWith, AllowsFor, IsFormed, Holds};
@@ -30,7 +30,7 @@ pub(crate) enum Change<'a> {
     TakeOut(&'a [String]),
 }
 
-/// A database with the tables, without a row.
+/// A database with the two tables of an index, without a row.
 pub(crate) fn open(alloc: Global) -> Result<Connection<MemStore>, Error>
     ensures { IfOk result (λ conn. Holds (state_of conn) no_rows) }
 {
@@ -40,7 +40,7 @@ pub(crate) fn open(alloc: Global) -> Result<Connection<MemStore>, Error>
     Ok(conn)
 }
 
-/// Gives the row of a path this mark, in whichever table it is.
+/// In a transaction, gives the index's row of a path this mark, in whichever table it is.
 fn mark_path(
     tx: &mut Transaction<'_, MemStore>,
     has_earlier: bool,
@@ -59,7 +59,7 @@ fn mark_path(
     set_mark(tx, Part::Earlier, path, mark)
 }
 
-/// Takes out the rows that are marked so, of both tables.
+/// In a transaction, takes the rows marked as leaving out of both tables of the index.
 fn take_leaving(tx: &mut Transaction<'_, MemStore>, has_earlier: bool) -> Result<(), Error>
     requires open { IsOpen IsFormed (state_of tx.old.conn.now) }
     requires earlier { AllowsFor has_earlier (rows_of tx.old.conn.now) }
@@ -73,7 +73,7 @@ fn take_leaving(tx: &mut Transaction<'_, MemStore>, has_earlier: bool) -> Result
     delete_leaving(tx, Part::Earlier)
 }
 
-/// Takes the row of a path out of the table of the release before, if there is one.
+/// In a transaction, takes the row of a path out of the index's table of the release before, if there is one.
 fn take_earlier(tx: &mut Transaction<'_, MemStore>, path: &str) -> Result<(), Error>
     requires { IsOpen IsFormed (state_of tx.old.conn.now) }
     ensures kept { KeepsCommit tx.old.conn tx.new.conn }
@@ -83,7 +83,8 @@ fn take_earlier(tx: &mut Transaction<'_, MemStore>, path: &str) -> Result<(), Er
     delete_leaving(tx, Part::Earlier)
 }
 
-/// Gives a path this row in the table of today, in place of the one there or as the last. A path that is new has none.
+/// In a transaction, gives a path this row in the index's table of today, in place of the one there or as the
+/// last. A path that is new has none.
 fn put_current<'x>(
     tx: &mut Transaction<'_, MemStore>,
     is_new: bool,
@@ -105,8 +106,8 @@ fn put_current<'x>(
     insert_current(tx, path, profile, text)
 }
 
-/// Gives a path this row in the table of today, and takes out the one that the release before wrote. A path that is new
-/// has none in the table of today.
+/// In a transaction, gives a path this row in the index's table of today, and takes out the one that the
+/// release before wrote. A path that is new has none in the table of today.
 fn put<'x>(
     tx: &mut Transaction<'_, MemStore>,
     has_earlier: bool,
@@ -128,7 +129,8 @@ fn put<'x>(
     take_earlier(tx, path)
 }
 
-/// Gives a path this row as the release before wrote it, and takes out the one there.
+/// In a transaction, gives a path of the index this row as the release before wrote it, and takes out the one
+/// there.
 fn put_earlier<'x>(
     tx: &mut Transaction<'_, MemStore>,
     has_earlier: bool,
@@ -145,7 +147,7 @@ fn put_earlier<'x>(
     insert_earlier(tx, path, text)
 }
 
-/// Gives the rows of these paths this mark, in whichever table they are.
+/// In a transaction, gives the index's rows of these paths this mark, in whichever table they are.
 fn set_marks(
     tx: &mut Transaction<'_, MemStore>,
     has_earlier: bool,
@@ -163,7 +165,7 @@ fn set_marks(
     Ok(())
 }
 
-/// Marks all rows of both tables stale.
+/// In a transaction, marks all rows of both tables of the index stale.
 fn mark_tables(tx: &mut Transaction<'_, MemStore>, has_earlier: bool) -> Result<(), Error>
     requires open { IsOpen IsFormed (state_of tx.old.conn.now) }
     requires earlier { AllowsFor has_earlier (rows_of tx.old.conn.now) }
@@ -177,7 +179,7 @@ fn mark_tables(tx: &mut Transaction<'_, MemStore>, has_earlier: bool) -> Result<
     mark_table(tx, Part::Earlier)
 }
 
-/// Takes out the rows of these paths, of both tables.
+/// In a transaction, takes the rows of these paths out of both tables of the index.
 fn take_out(
     tx: &mut Transaction<'_, MemStore>,
     has_earlier: bool,
@@ -192,7 +194,7 @@ fn take_out(
     take_leaving(tx, has_earlier)
 }
 
-/// The statements of a change.
+/// Runs the statements of a change of the index's rows in a transaction.
 fn make(
     tx: &mut Transaction<'_, MemStore>,
     has_earlier: bool,
@@ -220,7 +222,7 @@ fn make(
     }
 }
 
-/// Makes the change in one transaction. Each table is told of alone.
+/// Makes a change of the index's rows in one transaction, and commits it. Each table is told of alone.
 fn commit(
     conn: &mut Connection<MemStore>,
     has_earlier: bool,
@@ -236,7 +238,7 @@ fn commit(
     tx.commit()
 }
 
-/// Makes the change. If it fails, nothing changes.
+/// Writes a change of the index's rows in one transaction. If it fails, nothing changes.
 pub(crate) fn write(
     conn: &mut Connection<MemStore>,
     has_earlier: bool,

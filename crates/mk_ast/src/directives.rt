@@ -1,4 +1,4 @@
-//! Directives.
+//! The kind of a line that is a directive: its word, and what follows that.
 ghost use Rattle.std.specs.Prelude.{◌≡◌, option_map};
 ghost use Rattle.std.specs.List.{prefix_len};
 ghost use Rattle.std.specs.Char.{is_ascii_alphabetic};
@@ -7,8 +7,8 @@ ghost use Rattle.mk_ast.specs.Kinds.{shown_kind, directive_in, directive_after_d
 use crate::kinds::{Directive, LineKind};
 use mk_text::skip_blanks;
 
-/// The directive that a line is, if it is one: a dot, any blanks, and a directive's word as the longest
-/// run of letters.
+/// The directive that a line of a makefile is, if it is one: a dot, any blanks, and a directive's word as the
+/// longest run of letters.
 pub(crate) fn directive_in(text: &str) -> Option<LineKind<'_>>
     ensures { option_map shown_kind result ≡ directive_in text.now }
 {
@@ -18,7 +18,7 @@ pub(crate) fn directive_in(text: &str) -> Option<LineKind<'_>>
     }
 }
 
-/// The directive whose word begins this text, if there is one.
+/// The directive whose word begins this text, which follows the dot of a line, if there is one.
 fn directive_after_dot(text: &str) -> Option<LineKind<'_>>
     ensures { option_map shown_kind result ≡ directive_after_dot text.now }
 {
@@ -32,7 +32,7 @@ fn directive_after_dot(text: &str) -> Option<LineKind<'_>>
     }
 }
 
-/// How many ASCII letters a text begins with.
+/// How many ASCII letters the text after a directive's dot begins with: these are its word.
 fn letters(bytes: &[u8]) -> usize
     ensures { result ≡ prefix_len is_ascii_alphabetic bytes.now }
 {
@@ -44,7 +44,7 @@ fn letters(bytes: &[u8]) -> usize
     bytes.len()
 }
 
-/// The directive with this word, if there is one.
+/// The directive with this word, as `if` or `include`, if there is one.
 fn directive_named(word: &str) -> Option<Directive>
     ensures { result ≡ directive_named word.now }
 {

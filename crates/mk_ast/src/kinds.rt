@@ -1,4 +1,4 @@
-//! What lines may be.
+//! What the kinds of lines are: directives, operators of assignments, and the other kinds.
 
 /// The word of a directive.
 #[derive(Debug, Clone, Copy, PartialEq, Eq)]

@@ -1,24 +1,26 @@
-//! What holds of every reading of lines into blocks. Each function does nothing: its clause is the
-//! law.
+//! What holds of every parse: of the reading of a makefile's lines into blocks. Each function does nothing:
+//! its clause is the law.
 ghost use Rattle.mk_ast.specs.Laws.{BlocksAreRead, NothingElseIsRead, PartsHaveOneBlock, NothingElseIsParsed, BlocksNest64Deep};
 
-/// The reading in one pass is a reading: the block whose parts the lines are, or the first line that is
-/// out of place, or else the first line of the innermost open block.
+/// The reading of a makefile's lines in one pass gives the block whose parts the lines are. Else it gives the
+/// first line that is out of place, or else the first line of the innermost open block.
 pub fn blocks_are_read()
     ensures { BlocksAreRead }
 {}
 
-/// Lines have no other reading, neither another block nor a fault at another line.
+/// The lines of a makefile have no other reading into blocks, neither another block nor a fault at another
+/// line.
 pub fn nothing_else_is_read()
     ensures { NothingElseIsRead }
 {}
 
-/// If two blocks have the same parts in the same order, they are the same block.
+/// If two blocks of makefiles have the same parts in the same order, they are the same block.
 pub fn parts_have_one_block()
     ensures { PartsHaveOneBlock }
 {}
 
-/// Bytes are parsed as what `parsed` says and as nothing else: one tree, or one fault at one line.
+/// The bytes of a makefile are parsed as what `parsed` says and as nothing else: one tree, or one fault at
+/// one line.
 pub fn nothing_else_is_parsed()
     ensures { NothingElseIsParsed }
 {}

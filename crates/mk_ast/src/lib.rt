@@ -1,4 +1,4 @@
-//! The kinds of the lines of a makefile, and the tree of its blocks.
+//! The kinds of the lines of a makefile, and a makefile parsed into the tree of its blocks.
 #![tactic(auto)]
 
 mod assignments;

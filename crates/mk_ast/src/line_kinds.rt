@@ -1,4 +1,4 @@
-//! The kind of a line.
+//! The kind of a line of a makefile: command, directive, assignment, dependency, blank or bad.
 ghost use Rattle.std.specs.Prelude.{◌≡◌, IfOk};
 ghost use Rattle.mk_ast.specs.Kinds.{shown_kind, line_kind, plain_kind};
 
@@ -9,7 +9,7 @@ use mk_ref::outside;
 use mk_text::trim_blanks;
 use std::alloc::{AllocError, Global};
 
-/// What a logical line is. Blanks are spaces and tabs.
+/// The kind of a logical line of a makefile. Blanks are spaces and tabs.
 ///
 /// - `Command`: it begins with a tab.
 /// - `Directive`: it begins with a dot, any blanks, and a directive's word as the longest run of ASCII
@@ -35,8 +35,8 @@ pub fn line_kind(alloc: Global, text: &str) -> Result<LineKind<'_>, AllocError>
     }
 }
 
-/// What a line is that can be neither a command nor a directive, such as a line of a loop's body into
-/// which words were put. It is the first of these kinds that fits. Blanks are spaces and tabs.
+/// The kind of a line of a makefile that can be neither a command nor a directive, such as a line of a loop's
+/// body into which words were put. It is the first of these kinds that fits. Blanks are spaces and tabs.
 ///
 /// - `Blank`: it holds nothing but blanks.
 /// - `Assignment`: the first `=` outside references, with one of `? + : !` directly before it or none,

@@ -1,4 +1,4 @@
-//! The tree of a makefile.
+//! The tree of a makefile's blocks: lines, choices and loops.
 
 use mk_text::Logical;
 use std::rc::Rc;

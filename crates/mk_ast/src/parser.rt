@@ -1,4 +1,4 @@
-//! A makefile read into its tree.
+//! A makefile's bytes parsed into the tree of its blocks.
 ghost use Rattle.std.specs.Prelude.{◌≡◌, ◌≤◌, ◌+◌, ◌==◌, length, take, count_by};
 ghost use Rattle.refusals.specs.Refused.{refused};
 ghost use Rattle.mk_text.specs.Lines.{logical_lines};
@@ -38,6 +38,7 @@ pub enum ParseError {
 impl From<AllocError> for ParseError {
     ghost from_gives = { λ _ error. error ≡ errors.Memory refused };
 
+    /// If an allocation is refused, a makefile isn't parsed, and the error is `Memory`.
     fn from(error: AllocError) -> ParseError {
         ParseError::Memory(OutOfMemory::from(error))
     }
@@ -46,13 +47,15 @@ impl From<AllocError> for ParseError {
 impl<T: Drop> From<AllocFailed<T>> for ParseError {
     ghost from_gives = { λ _ error. error ≡ errors.Memory refused };
 
+    /// If an allocation that gives a value back is refused, a makefile isn't parsed, and the error is
+    /// `Memory`.
     fn from(error: AllocFailed<T>) -> ParseError {
         ParseError::Memory(OutOfMemory::from(error))
     }
 }
 
-/// The line, counted from 1, of the first of these bytes that isn't UTF-8. `valid` bytes come before
-/// it.
+/// The line of a makefile, counted from 1, with its first byte that isn't UTF-8. `valid` bytes come before
+/// that byte.
 fn bad_line(bytes: &[u8], valid: usize) -> u64
     requires { valid ≤ length bytes.now }
     ensures { result ≡ 1 + count_by (λ byte. byte == 10) (take valid bytes.now) }
@@ -60,7 +63,8 @@ fn bad_line(bytes: &[u8], valid: usize) -> u64
     1 + bytes[..valid].iter().filter(|byte| **byte == b'\n').count() as u64
 }
 
-/// The tree of a makefile, whose lines are those of `mk_text::logical_lines`.
+/// The bytes of a makefile parsed into the tree of its blocks. Its lines are those of
+/// `mk_text::logical_lines`.
 ///
 /// A block goes from a form of `.if` over forms of `.elif` and at most one `.else` to `.endif`, or from
 /// `.for` to `.endfor`. What follows `.else`, `.endif` and `.endfor` on their lines is ignored. At most
@@ -90,7 +94,7 @@ pub fn parse(alloc: Global, bytes: &[u8]) -> Result<Makefile, ParseError>
     }
 }
 
-/// The tree of a text's lines.
+/// The text of a makefile parsed into the tree of its blocks.
 fn parse_text(alloc: Global, text: &str) -> Result<Makefile, ParseError>
     ensures { AnswersWith result (with_kind (blocks_of BLOCKS (logical_lines text.now))) }
 {

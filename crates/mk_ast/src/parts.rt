@@ -1,4 +1,4 @@
-//! What a line is to the blocks of its makefile.
+//! The part that a line is of the frame of a block, as `.if`, `.else` or `.endfor`, or that it is none.
 ghost use Rattle.std.specs.Prelude.{◌≡◌};
 ghost use Rattle.mk_text.specs.Lines.{LogicalLine};
 ghost use Rattle.mk_ast.specs.Kinds.{shown_kind};
@@ -35,7 +35,7 @@ pub(crate) enum FramePart {
     Plain,
 }
 
-/// The part that a line is.
+/// The part of a block's frame that a line of a makefile is, as `.if` or `.endfor`, or `Plain`.
 pub(crate) fn part_of(line: &Logical) -> FramePart
     ensures { shown_part result line.now ≡ part_of line.now }
 {
@@ -45,7 +45,7 @@ pub(crate) fn part_of(line: &Logical) -> FramePart
     }
 }
 
-/// The part that a line of this kind is.
+/// The part of a block's frame that a line of this kind is; a line that is no directive is `Plain`.
 fn part_by(kind: LineKind) -> FramePart
     ensures { (line : LogicalLine) → shown_part result line ≡ part_by line (shown_kind kind.entry) }
 {
@@ -55,7 +55,8 @@ fn part_by(kind: LineKind) -> FramePart
     }
 }
 
-/// The part that a directive makes of its line.
+/// The part of a block's frame that a directive makes of its line; `.include`, `.sinclude` and `.undef` make
+/// none.
 fn part_with(word: Directive) -> FramePart
     ensures { (line : LogicalLine) → shown_part result line ≡ part_with line word }
 {

@@ -1,4 +1,4 @@
-//! The lines of a makefile put into blocks, one after another.
+//! The reader that puts the lines of a makefile into blocks, one after another.
 ghost use Rattle.std.specs.Prelude.{◌≡◌};
 ghost use Rattle.mk_ast.specs.Parts.{part_of};
 ghost use Rattle.mk_ast.specs.FrameParts.{shown_part};
@@ -59,7 +59,7 @@ pub(crate) struct Reader {
     stack: Vec<OpenBlock>,
 }
 
-/// The error if blocks go wrong at this line.
+/// The error of kind `Block` if the blocks of a makefile go wrong at this line.
 fn wrong(line: u64) -> ParseError
     ensures { result ≡ errors.Fault (block_fault line) }
 {
@@ -88,7 +88,8 @@ enum PartEffect {
 }
 
 impl Progress {
-    /// What the block is if it ends; `body` is what follows its last part.
+    /// What an open block of a makefile is if it ends: a choice or a loop. `body` is what follows its last
+    /// part.
     fn content(self, alloc: Global, body: Block) -> Result<Content, AllocError>
         ensures { EndsContent result self body.value.items }
     {
@@ -108,7 +109,8 @@ impl Progress {
 }
 
 impl OpenBlock {
-    /// What a part at this line makes of the block; `body` is what follows the part before it.
+    /// What an inner part at this line, as `.else` or `.endif`, makes of the open block; `body` is what
+    /// follows the part before it.
     fn after(
         self,
         alloc: Global,
@@ -142,7 +144,7 @@ impl OpenBlock {
     }
 }
 
-/// A choice with this first line, these branches, and that of its `.else`, if it has one.
+/// The node of a choice with this first line, these branches, and that of its `.else`, if it has one.
 fn choice(
     alloc: Global,
     head: Logical,
@@ -159,7 +161,8 @@ fn choice(
     })
 }
 
-/// The effect of a part that ends a block as this node, after those before it.
+/// The effect of a part that ends a block of a makefile, as `.endif`: the block is this node, after those
+/// before it.
 fn ending(before: Vec<Node>, node: Node) -> Result<PartEffect, AllocError>
     ensures { AddsNode result before.items node }
 {
@@ -169,7 +172,7 @@ fn ending(before: Vec<Node>, node: Node) -> Result<PartEffect, AllocError>
 }
 
 impl Reader {
-    /// Nothing is read yet.
+    /// The reader of a makefile's lines into blocks, before the first line.
     pub(crate) fn new(alloc: Global) -> Reader
         ensures { state_of_reader result ≡ start_state }
     {
@@ -179,7 +182,7 @@ impl Reader {
         }
     }
 
-    /// The reader after one more line.
+    /// The reader of a makefile's blocks after one more line.
     #[tactic(auto, unfolding(crate::specs::Blocks::step))]
     pub(crate) fn step(self, alloc: Global, line: Logical) -> Result<Reader, ParseError>
         ensures { Steps result line.line (step BLOCKS (state_of_reader self) (part_of line)) }
@@ -192,7 +195,7 @@ impl Reader {
         }
     }
 
-    /// The reader after a line that frames no block.
+    /// The reader of a makefile's blocks after a line that frames no block.
     fn add(self, line: Logical) -> Result<Reader, ParseError>
         ensures { AddsPlainLine result self line }
     {
@@ -201,7 +204,7 @@ impl Reader {
         Ok(Reader { current, stack })
     }
 
-    /// The reader after a line that opens a block.
+    /// The reader of a makefile's blocks after a line that opens a block. It fails if the block is too deep.
     fn begin(self, alloc: Global, head: Logical, progress: Progress) -> Result<Reader, ParseError>
         ensures { Steps result head.line (begin BLOCKS (state_of_reader self) head (stage_of progress)) }
     {
@@ -220,7 +223,7 @@ impl Reader {
         })
     }
 
-    /// The reader after a part that divides or closes the innermost open block.
+    /// The reader of a makefile's blocks after a part that divides or closes the innermost open block.
     fn go_on(self, alloc: Global, part: InnerPart, line: Logical) -> Result<Reader, ParseError>
         ensures { GoesOnWith result self part line }
     {
@@ -240,7 +243,7 @@ impl Reader {
         }
     }
 
-    /// The tree of all that is read.
+    /// The tree of the makefile whose lines are all read. It fails if a block is still open.
     pub(crate) fn finish(self, alloc: Global) -> Result<Makefile, ParseError>
         ensures { AnswersWhole result self }
     {

@@ -1,4 +1,4 @@
-//! The budget of an evaluation: units of work and questions about files.
+//! The budget of an evaluation, of a value or of a record: units of work, and questions about files.
 ghost use Rattle.std.specs.Prelude.{◌≡◌, ◌≤◌};
 ghost use Rattle.mk_base.specs.Meter.{full, pay, question, IsLater};
 ghost use Rattle.mk_base.specs.Stops.{GivesOnly};
@@ -33,8 +33,8 @@ impl Model for Budget {
 }
 
 impl Budget {
-    /// A budget of this many units and of 256 questions. No unit is spent yet, and no question is
-    /// asked.
+    /// The budget of work on a makefile, with this many units and 256 questions about files. No unit is spent
+    /// yet, and no question is asked.
     pub fn new(limit: u64) -> Budget
         ensures { result ≡ full limit }
     {
@@ -45,7 +45,7 @@ impl Budget {
         }
     }
 
-    /// The number of units spent so far, at most the limit.
+    /// The number of units that were spent so far of a budget, at most its limit.
     pub fn spent(&self) -> u64
         ensures units { result ≡ self.now.spent }
         ensures within { result ≤ self.now.limit }
@@ -53,14 +53,15 @@ impl Budget {
         self.spent
     }
 
-    /// The number of questions asked so far.
+    /// The number of questions about files that were counted so far in a budget.
     pub fn questions(&self) -> u64
         ensures { result ≡ self.now.questions }
     {
         self.questions
     }
 
-    /// Spends one unit. If none is left, it fails with the fault `Budget`, and nothing is spent.
+    /// Spends one unit of the budget. If none is left, it fails with the fault `Budget`, and nothing is
+    /// spent.
     pub fn pay(&mut self) -> Result<(), FaultKind>
         ensures gives { GivesOnly (λ x. x) result self.new (pay self.old) }
         ensures later { IsLater self.old self.new }
@@ -73,7 +74,8 @@ impl Budget {
         }
     }
 
-    /// Counts one question about a file. The 257th fails with the fault `Questions`, and isn't counted.
+    /// Counts one question about a file in the budget. The 257th fails with the fault `Questions`, and isn't
+    /// counted.
     pub fn ask(&mut self) -> Result<(), FaultKind>
         ensures gives { GivesOnly (λ x. x) result self.new (question self.old) }
         ensures later { IsLater self.old self.new }

@@ -1,4 +1,4 @@
-//! The kinds of fault of make files, and a fault with its place.
+//! The kinds of fault of makefiles, and a fault with its place: a file and a line.
 ghost use Rattle.std.specs.Prelude.{◌≡◌, IfOk};
 ghost use Rattle.mk_base.specs.Faults.{fault_number};
 ghost use Rattle.mk_base.specs.FaultAt.{fault_at};
@@ -70,7 +70,7 @@ pub enum FaultKind {
 }
 
 impl FaultKind {
-    /// The number of the kind, from 1 to 18, as replies show it.
+    /// The number of a kind of fault of makefiles, from 1 to 18, as replies show it.
     pub fn number(self) -> u8
         ensures { result ≡ fault_number self }
     {
@@ -98,8 +98,8 @@ impl Model for Fault {
 }
 
 impl Fault {
-    /// The fault of this kind at this line of the named file. Line 0 means that no line of the file is
-    /// at fault. It fails only if memory for the name runs out.
+    /// A fault of a makefile with its place: its kind, and this line of the named file. Line 0 means that no
+    /// line of the file is at fault. It fails only if memory for the name runs out.
     pub fn new(alloc: Global, kind: FaultKind, name: &str, line: u64) -> Result<Fault, AllocError>
         ensures { IfOk result (λ f. f ≡ fault_at kind name.now line) }
     {
@@ -110,21 +110,21 @@ impl Fault {
         })
     }
 
-    /// The kind of the fault: what went wrong.
+    /// The kind of a makefile's fault: what went wrong.
     pub fn kind(&self) -> FaultKind
         ensures { result ≡ self.now.kind }
     {
         self.kind
     }
 
-    /// The resolved name of the file where it arose.
+    /// The resolved name of the file where a makefile's fault arose.
     pub fn name(&self) -> &str
         ensures { result.now ≡ self.now.name }
     {
         self.name.as_str()
     }
 
-    /// The line where it arose, counted from 1. It is 0 if the file as a whole is at fault.
+    /// The line where a makefile's fault arose, counted from 1. It is 0 if the file as a whole is at fault.
     pub fn line(&self) -> u64
         ensures { result ≡ self.now.line }
     {

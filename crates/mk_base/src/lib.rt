@@ -1,5 +1,5 @@
-//! What every crate of the make language shares: the kinds of fault, a fault with its place, the
-//! budget of an evaluation, and the types by which work stops.
+//! What every crate of the make language shares: the kinds of fault, a fault with its place, the budget of an
+//! evaluation, and the types by which work on a makefile stops.
 #![tactic(auto)]
 
 mod budget;

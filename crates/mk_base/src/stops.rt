@@ -1,4 +1,4 @@
-//! How work stops: at a fault, by a store that fails, or as memory runs out.
+//! How work on a makefile stops: at a fault, by a store that fails, or as memory runs out.
 ghost use Rattle.std.specs.Prelude.{◌≡◌};
 ghost use Rattle.refusals.specs.Refused.{refused};
 ghost use Rattle.mk_base.specs.declared.stops.PureStop.TheVariants as pure;
@@ -28,6 +28,7 @@ pub enum PureStop<F> {
 impl<F> From<AllocError> for PureStop<F> {
     ghost from_gives = { λ _ stop. stop ≡ pure.Memory refused };
 
+    /// If an allocation is refused, work on a makefile that looks at no file stops with `Memory`.
     fn from(error: AllocError) -> PureStop<F> {
         PureStop::Memory(OutOfMemory::from(error))
     }
@@ -36,6 +37,8 @@ impl<F> From<AllocError> for PureStop<F> {
 impl<F, T: Drop> From<AllocFailed<T>> for PureStop<F> {
     ghost from_gives = { λ _ stop. stop ≡ pure.Memory refused };
 
+    /// If an allocation that gives a value back is refused, work on a makefile that looks at no file stops
+    /// with `Memory`.
     fn from(error: AllocFailed<T>) -> PureStop<F> {
         PureStop::Memory(OutOfMemory::from(error))
     }
@@ -44,14 +47,15 @@ impl<F, T: Drop> From<AllocFailed<T>> for PureStop<F> {
 impl From<FaultKind> for PureStop<FaultKind> {
     ghost from_gives = { λ kind stop. stop ≡ pure.Fault kind };
 
+    /// A kind of fault as the stop of work on a makefile that looks at no file, still without its place.
     fn from(kind: FaultKind) -> PureStop<FaultKind> {
         PureStop::Fault(kind)
     }
 }
 
 impl PureStop<FaultKind> {
-    /// The same stop. If it is a fault, the file's name and the line where it arose are added. If
-    /// memory for the name runs out, the result is `Memory` instead.
+    /// The stop of work on a makefile that looks at no file, its fault with its place: the file's name and
+    /// the line. If memory for the name runs out, the result is `Memory` instead.
     pub fn blame(self, alloc: Global, name: &str, line: u64) -> PureStop<Fault>
         ensures { IsBlamedPurely name.now line self result }
     {
@@ -84,6 +88,7 @@ pub enum Stop<F> {
 impl<F> From<AllocError> for Stop<F> {
     ghost from_gives = { λ _ stop. stop ≡ stops.Memory refused };
 
+    /// If an allocation is refused, work on a makefile that may look at files stops with `Memory`.
     fn from(error: AllocError) -> Stop<F> {
         Stop::Memory(OutOfMemory::from(error))
     }
@@ -92,6 +97,8 @@ impl<F> From<AllocError> for Stop<F> {
 impl<F, T: Drop> From<AllocFailed<T>> for Stop<F> {
     ghost from_gives = { λ _ stop. stop ≡ stops.Memory refused };
 
+    /// If an allocation that gives a value back is refused, work on a makefile that may look at files stops
+    /// with `Memory`.
     fn from(error: AllocFailed<T>) -> Stop<F> {
         Stop::Memory(OutOfMemory::from(error))
     }
@@ -100,6 +107,7 @@ impl<F, T: Drop> From<AllocFailed<T>> for Stop<F> {
 impl<F> From<PureStop<F>> for Stop<F> {
     ghost from_gives = { λ pure stop. stop ≡ stop_of_pure pure };
 
+    /// The stop of work that looks at no file, as a stop of work that may look at files.
     fn from(stop: PureStop<F>) -> Stop<F> {
         match stop {
             PureStop::Fault(fault) => Stop::Fault(fault),
@@ -111,14 +119,15 @@ impl<F> From<PureStop<F>> for Stop<F> {
 impl From<FaultKind> for Stop<FaultKind> {
     ghost from_gives = { λ kind stop. stop ≡ stops.Fault kind };
 
+    /// A kind of fault as the stop of work on a makefile that may look at files, still without its place.
     fn from(kind: FaultKind) -> Stop<FaultKind> {
         Stop::Fault(kind)
     }
 }
 
 impl Stop<FaultKind> {
-    /// The same stop. If it is a fault, the file's name and the line where it arose are added. If
-    /// memory for the name runs out, the result is `Memory` instead.
+    /// The stop of work on a makefile that may look at files, its fault with its place: the file's name and
+    /// the line. If memory for the name runs out, the result is `Memory` instead.
     pub fn blame(self, alloc: Global, name: &str, line: u64) -> Stop<Fault>
         ensures { IsBlamed name.now line self result }
     {

@@ -1,4 +1,4 @@
-//! Calls in conditions.
+//! The truth of calls in conditions: `defined`, `empty`, `exists`, `make` and `target`.
 ghost use Rattle.mk_base.specs.Meter.{IsLater};
 ghost use Rattle.mk_cond.specs.Tasks.{TellsCall, TellsExists, TellsDefined, TellsEmpty};
 
@@ -11,8 +11,8 @@ use mk_paths::{Name, NameFault, Names};
 use mk_text::words;
 use std::alloc::{AllocError, Global};
 
-/// What a call asks of its argument. Whether a target is asked for or defined is always false, and then
-/// the argument isn't looked at.
+/// The truth of a call in a condition. Whether a target is asked for or defined (`make`, `target`) is always
+/// false, and then the argument isn't looked at.
 pub(crate) fn call_truth<F: Names>(
     alloc: Global,
     setting: Setting<'_>,
@@ -32,7 +32,7 @@ pub(crate) fn call_truth<F: Names>(
     }
 }
 
-/// Whether the argument, expanded, is the name of a variable.
+/// The truth of the call `defined` in a condition: whether the argument, expanded, is the name of a variable.
 fn is_defined(
     alloc: Global,
     variables: &Env,
@@ -46,7 +46,8 @@ fn is_defined(
     Ok(variables.defined(name.as_str()))
 }
 
-/// Whether the meaning of a reference with this inside has no word.
+/// The truth of the call `empty` in a condition: whether the meaning of a reference with this inside has no
+/// word.
 fn is_empty(
     alloc: Global,
     variables: &Env,
@@ -60,7 +61,8 @@ fn is_empty(
     Ok(words(alloc, value.as_str())?.is_empty())
 }
 
-/// Whether the file that the argument names, expanded, is there.
+/// The truth of the call `exists` in a condition: whether the file that the argument names, expanded, is
+/// there.
 fn exists<F: Names>(
     alloc: Global,
     setting: Setting<'_>,

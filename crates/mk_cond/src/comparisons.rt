@@ -1,4 +1,4 @@
-//! Comparisons in conditions.
+//! The truth of comparisons in conditions, of numbers and of texts.
 ghost use Rattle.std.specs.Prelude.{◌≡◌};
 ghost use Rattle.mk_base.specs.Meter.{IsLater};
 ghost use Rattle.mk_cond_tree.specs.Placed.{IsSideIn};
@@ -12,8 +12,8 @@ use mk_cond_tree::{Comparison, Side};
 use mk_env::expand;
 use std::alloc::Global;
 
-/// Whether this comparison holds between two sides of a condition, which are expanded from the left. It
-/// is a fault if texts are compared by an order.
+/// Whether this comparison of a condition holds between two sides, which are expanded from the left. If texts
+/// are compared by an order, that is the fault `Condition`.
 pub(crate) fn compared(
     alloc: Global,
     setting: Setting<'_>,
@@ -43,7 +43,7 @@ pub(crate) fn compared(
     }
 }
 
-/// The text of a side, as it is written.
+/// The text of a side of a comparison, as the condition has it written.
 fn side_source(text: &str, side: Side) -> &str
     requires { IsSideIn text.now side }
     ensures { result.now ≡ leaves.side_source text.now side }
@@ -54,7 +54,7 @@ fn side_source(text: &str, side: Side) -> &str
     }
 }
 
-/// The number that an expanded side is; `None` if it is none. A quoted side is text.
+/// The number that an expanded side of a comparison is; `None` if it is none. A quoted side is text.
 fn side_number(side: Side, found: &str) -> Option<i64>
     ensures { result ≡ leaves.side_number side found.now }
 {
@@ -64,7 +64,7 @@ fn side_number(side: Side, found: &str) -> Option<i64>
     }
 }
 
-/// The number that a text is; an empty text is 0.
+/// The number that the text of a side of a comparison is; an empty text is 0.
 fn number_or_zero(text: &[u8]) -> Option<i64>
     ensures { result ≡ leaves.number_or_zero text.now }
 {
@@ -75,8 +75,8 @@ fn number_or_zero(text: &[u8]) -> Option<i64>
     }
 }
 
-/// Whether this comparison holds between two sides. If both are numbers, they are compared as numbers,
-/// and otherwise as texts.
+/// Whether this comparison of a condition holds between two expanded sides. If both are numbers, they are
+/// compared as numbers, and otherwise as texts. It is `None` if texts are compared by an order.
 fn sides_compare(
     comparison: Comparison,
     one: Option<i64>,
@@ -92,8 +92,8 @@ fn sides_compare(
     }
 }
 
-/// Whether this comparison holds between two texts. Texts have no order: `None` if the comparison
-/// asks for one.
+/// Whether this comparison of a condition holds between two texts. Texts have no order: `None` if the
+/// comparison asks for one.
 fn texts_compare(comparison: Comparison, left: &str, right: &str) -> Option<bool>
     ensures { result ≡ leaves.texts_compare comparison left.now right.now }
 {

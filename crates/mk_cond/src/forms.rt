@@ -1,4 +1,4 @@
-//! The directives that have conditions.
+//! The forms of the directives that have conditions, as `.if` and `.ifndef`.
 ghost use Rattle.std.specs.Prelude.{◌≡◌, ◌<◌, ◌+◌, true, length, take, drop, slice_index, option_map};
 ghost use Rattle.std.specs.List.{position};
 ghost use Rattle.mk_text.specs.Blanks.{is_blank};
@@ -16,8 +16,8 @@ pub struct Form {
     pub negated: bool,
 }
 
-/// The form of the directive that a text begins with, and the condition after the blank that ends the
-/// directive's word.
+/// The form of the directive that a text begins with, as `ifdef`, and the condition after the blank that ends
+/// the directive's word.
 pub(crate) fn parted(text: &str) -> Option<(Form, &str)>
     ensures { option_map shown_parts result ≡ parted text.now }
 {
@@ -31,14 +31,14 @@ pub(crate) fn parted(text: &str) -> Option<(Form, &str)>
     }
 }
 
-/// The index of the first blank.
+/// The index of the first blank in the text of a directive and its condition.
 fn first_blank(bytes: &[u8]) -> Option<usize>
     ensures { result ≡ position is_blank bytes.now }
 {
     bytes.iter().position(|byte| is_blank(*byte))
 }
 
-/// What is before and after the blank at this index.
+/// The text of a directive cut at the blank at this index: the directive's word, and the condition.
 fn cut_at(text: &str, at: usize) -> (&str, &str)
     requires within { at < length text.now }
     requires blank { is_blank (slice_index text.now at) ≡ true }
@@ -48,7 +48,7 @@ fn cut_at(text: &str, at: usize) -> (&str, &str)
     (&text[..at], &text[at + 1..])
 }
 
-/// The form of the directive with this word.
+/// The form of the directive with this word, as `if` or `elifndef`; `None` if it has no condition.
 fn form_named(word: &str) -> Option<Form>
     ensures { result ≡ form_named word.now }
 {
@@ -61,6 +61,7 @@ fn form_named(word: &str) -> Option<Form>
     }
 }
 
+/// The form of a directive: what a lone word of its condition asks, and whether the truth is negated.
 fn form_of(word: Call, negated: bool) -> Form
     ensures { result ≡ record { word = word; negated = negated } }
 {

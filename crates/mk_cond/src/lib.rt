@@ -1,4 +1,4 @@
-//! The truth of conditions (make(1), "CONDITIONALS").
+//! The truth of a condition under its directive, among variables and files (make(1), "CONDITIONALS").
 #![tactic(auto)]
 
 mod calls;

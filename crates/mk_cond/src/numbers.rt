@@ -1,4 +1,4 @@
-//! Numbers in conditions.
+//! The numbers that conditions compare: how they are read, and how they compare.
 ghost use Rattle.std.specs.Prelude.{◌≡◌, ◌<◌, ◌≤◌, ◌^◌, pos, neg_ℤ, option_map, IfSome};
 ghost use Rattle.std.specs.Option.{ForSome};
 ghost use Rattle.std.specs.List.{list_all};
@@ -8,8 +8,8 @@ ghost use Rattle.mk_cond.specs.Numbers.{is_numeral, numeral, decimal, hex_or_dec
 use mk_cond_tree::Comparison;
 use std::str;
 
-/// The number that a text is: `0x` and 1 to 15 hexadecimal digits, or `-`, `+` or no sign and 1 to 18
-/// decimal digits.
+/// The number that a text in a condition is: `0x` and 1 to 15 hexadecimal digits, or `-`, `+` or no sign and
+/// 1 to 18 decimal digits.
 #[tactic(auto, unfolding(crate::specs::Numbers::hex_or_decimal))]
 pub(crate) fn number_of(text: &[u8]) -> Option<i64>
     ensures { result ≡ hex_or_decimal text.now }
@@ -21,7 +21,7 @@ pub(crate) fn number_of(text: &[u8]) -> Option<i64>
     }
 }
 
-/// The number that is written as a sign, or none, and 1 to 18 decimal digits.
+/// The number of a condition that is written as a sign, or none, and 1 to 18 decimal digits.
 fn decimal(text: &[u8]) -> Option<i64>
     ensures { result ≡ decimal text.now }
 {
@@ -32,6 +32,7 @@ fn decimal(text: &[u8]) -> Option<i64>
     }
 }
 
+/// A number in a condition, of this size and not negative; `None` if there is no size.
 fn positive(size: Option<u64>) -> Option<i64>
     requires { ForSome size (λ n. n < 2 ^ 63) }
     ensures { result ≡ option_map pos size }
@@ -42,6 +43,7 @@ fn positive(size: Option<u64>) -> Option<i64>
     }
 }
 
+/// A number in a condition, of this size with a `-` before it; `None` if there is no size.
 fn negative(size: Option<u64>) -> Option<i64>
     requires { ForSome size (λ n. n < 2 ^ 63) }
     ensures { result ≡ option_map (λ n. neg_ℤ (pos n)) size }
@@ -52,8 +54,8 @@ fn negative(size: Option<u64>) -> Option<i64>
     }
 }
 
-/// The number that is written with these digits in this radix. There must be at least one digit and
-/// at most `most`.
+/// The size of a number in a condition, written with these digits in this radix. There must be at least one
+/// digit and at most `most`.
 fn numeral(digits: &[u8], radix: u32, most: usize) -> Option<u64>
     requires least { 2 ≤ radix }
     requires greatest { radix ≤ 36 }
@@ -70,6 +72,7 @@ fn numeral(digits: &[u8], radix: u32, most: usize) -> Option<u64>
     }
 }
 
+/// Whether these bytes are the digits of a number in this radix: at least one of them and at most `most`.
 fn is_numeral(digits: &[u8], radix: u32, most: usize) -> bool
     requires least { 2 ≤ radix }
     requires greatest { radix ≤ 36 }
@@ -78,6 +81,7 @@ fn is_numeral(digits: &[u8], radix: u32, most: usize) -> bool
     !digits.is_empty() && digits.len() <= most && are_digits(digits, radix)
 }
 
+/// Whether each of these bytes is a digit of a number in this radix.
 fn are_digits(bytes: &[u8], radix: u32) -> bool
     requires least { 2 ≤ radix }
     requires greatest { radix ≤ 36 }
@@ -86,7 +90,7 @@ fn are_digits(bytes: &[u8], radix: u32) -> bool
     bytes.iter().all(|byte| char::from(*byte).is_digit(radix))
 }
 
-/// Whether this comparison holds between two numbers.
+/// Whether this comparison of a condition holds between two numbers.
 pub(crate) fn numbers_compare(comparison: Comparison, left: i64, right: i64) -> bool
     ensures { result ≡ numbers_compare comparison left right }
 {
@@ -100,7 +104,7 @@ pub(crate) fn numbers_compare(comparison: Comparison, left: i64, right: i64) -> 
     }
 }
 
-/// Whether this, which may be a number, isn't the number 0.
+/// Whether a side of a condition, which may be this number, isn't the number 0.
 pub(crate) fn isnt_zero(number: Option<i64>) -> bool
     ensures { result ≡ isnt_zero number }
 {

@@ -1,4 +1,4 @@
-//! The surroundings of conditions.
+//! The setting of a condition: the variables, the makefile, the directive's form and the text.
 
 use crate::forms::Form;
 use mk_env::Env;

@@ -1,4 +1,4 @@
-//! Sides of conditions that are alone, without a comparison.
+//! The truth of sides of conditions that are alone, without a comparison.
 ghost use Rattle.std.specs.Prelude.{◌≡◌, IfOk};
 ghost use Rattle.mk_base.specs.Meter.{IsLater};
 ghost use Rattle.std.specs.List.{list_any};
@@ -17,7 +17,7 @@ use mk_paths::Names;
 use mk_ref::{Piece, PiecesFault, pieces};
 use std::alloc::{AllocError, Global};
 
-/// Whether a side alone holds.
+/// The truth of a side that is alone in a condition: of a quoted side or of a word.
 pub(crate) fn side_truth<F: Names>(
     alloc: Global,
     setting: Setting<'_>,
@@ -36,7 +36,8 @@ pub(crate) fn side_truth<F: Names>(
     }
 }
 
-/// Whether a word alone holds.
+/// The truth of a word that is alone in a condition: a reference, a number, or the argument of the
+/// directive's call.
 fn word_truth<F: Names>(
     alloc: Global,
     setting: Setting<'_>,
@@ -55,7 +56,7 @@ fn word_truth<F: Names>(
     }
 }
 
-/// Whether a text, expanded, isn't empty.
+/// The truth of a quoted side that is alone in a condition: whether it, expanded, isn't empty.
 fn has_text(
     alloc: Global,
     variables: &Env,
@@ -69,7 +70,8 @@ fn has_text(
     Ok(!found.is_empty())
 }
 
-/// Whether a text, expanded, is neither empty nor the number 0.
+/// The truth of a side with a reference that is alone in a condition: whether it, expanded, is neither empty
+/// nor the number 0.
 fn has_true(
     alloc: Global,
     variables: &Env,
@@ -83,14 +85,14 @@ fn has_true(
     Ok(is_true(found.as_bytes()))
 }
 
-/// Whether a text is neither empty nor the number 0.
+/// Whether the expanded text of a side that is alone is neither empty nor the number 0.
 fn is_true(text: &[u8]) -> bool
     ensures { result ≡ leaves.is_true text.now }
 {
     !text.is_empty() && isnt_zero(number_of(text))
 }
 
-/// Whether there is a reference in a text. One that doesn't end counts too.
+/// Whether there is a reference in a side that is alone in a condition. One that doesn't end counts too.
 #[tactic(auto, unfolding(crate::specs::Leaves::has_reference))]
 fn has_reference(alloc: Global, text: &str) -> Result<bool, AllocError>
     ensures { IfOk result (λ found. found ≡ leaves.has_reference text.now) }
@@ -102,7 +104,7 @@ fn has_reference(alloc: Global, text: &str) -> Result<bool, AllocError>
     }
 }
 
-/// Whether one of these pieces is a reference.
+/// Whether one of the pieces of a side that is alone is a reference.
 fn refers(pieces: &[Piece]) -> bool
     ensures { result ≡ list_any is_reference_piece pieces.now }
 {

@@ -1,4 +1,4 @@
-//! The truth of the tree of a condition.
+//! The truth of the tree of a condition: of its conjunctions and their terms.
 ghost use Rattle.std.specs.Prelude.{All};
 ghost use Rattle.mk_cond_tree.specs.Placed.{IsTokenIn};
 ghost use Rattle.mk_cond_tree.specs.Trees.{or_tokens, and_tokens, not_tokens};
@@ -14,7 +14,7 @@ use mk_cond_tree::{Condition, Conjunction, Term};
 use mk_paths::Names;
 use std::alloc::Global;
 
-/// Whether a condition holds: one of its conjunctions does.
+/// The truth of a condition by its tree: whether one of its conjunctions holds.
 #[cycle(truth)]
 pub(crate) fn condition_truth<F: Names>(
     alloc: Global,
@@ -37,7 +37,7 @@ pub(crate) fn condition_truth<F: Names>(
     Ok(held)
 }
 
-/// Whether a conjunction holds: all its terms do.
+/// The truth of a conjunction in the tree of a condition: whether all its terms hold.
 #[cycle(truth)]
 fn conjunction_truth<F: Names>(
     alloc: Global,
@@ -60,7 +60,7 @@ fn conjunction_truth<F: Names>(
     Ok(held)
 }
 
-/// Whether a term holds.
+/// The truth of a term in the tree of a condition: a negation, a group, a call, a comparison or a side.
 #[cycle(truth)]
 fn term_truth<F: Names>(
     alloc: Global,

@@ -1,4 +1,4 @@
-//! The truth of a condition under its directive.
+//! The truth value of a condition under its directive.
 ghost use Rattle.std.specs.Prelude.{Some};
 ghost use Rattle.mk_cond.specs.Tasks.{DoesCondition, DoesDirective, TellsTruth};
 
@@ -79,7 +79,7 @@ pub fn directive_truth<F: Names>(
     Ok(if setting.form.negated { !held } else { held })
 }
 
-/// Whether the condition in the setting's text holds.
+/// The truth of the condition in the setting's text, before the directive negates it.
 #[tactic(auto, unfolding(crate::specs::Truth::condition_truth))]
 fn text_truth<F: Names>(
     alloc: Global,

@@ -1,4 +1,4 @@
-//! Conditions read into their trees.
+//! A condition's text read into its tree.
 ghost use Rattle.std.specs.Prelude.{◌≡◌, ◌≢◌, [], true, false, option_map, All, IfOk, IfErr};
 ghost use Rattle.refusals.specs.Refused.{refused};
 ghost use Rattle.mk_cond_tree.specs.declared.condition.ConditionError.TheVariants as errors;
@@ -36,6 +36,7 @@ pub enum ConditionError {
 impl From<AllocError> for ConditionError {
     ghost from_gives = { λ _ error. error ≡ errors.Memory refused };
 
+    /// If an allocation is refused, a condition isn't read into its tree, and the error is `Memory`.
     fn from(error: AllocError) -> ConditionError {
         ConditionError::Memory(OutOfMemory::from(error))
     }
@@ -75,7 +76,7 @@ pub fn read_condition(alloc: Global, text: &str) -> Result<Condition, ConditionE
     }
 }
 
-/// Whether each reference of a text ends.
+/// Whether each reference of a condition's text ends.
 fn ends_each_reference(alloc: Global, text: &str) -> Result<bool, AllocError>
     ensures closed { IfOk result (λ ends. ends ≡ true → left_of text.now ≡ []) }
     ensures unclosed { IfOk result (λ ends. ends ≡ false → left_of text.now ≢ []) }
@@ -87,7 +88,7 @@ fn ends_each_reference(alloc: Global, text: &str) -> Result<bool, AllocError>
     }
 }
 
-/// The tree of a text in which dollars cover the references; `None` if it has none.
+/// The tree of a condition in whose text dollars cover the references; `None` if it has none.
 fn tree_in(alloc: Global, covered: &[u8]) -> Result<Option<Condition>, AllocError>
     ensures { IfOk result (λ read. option_map condition_tree read ≡ tree_in covered.now) }
 {

@@ -1,4 +1,4 @@
-//! The grammar of conditions: their tokens, and the tree whose tokens, in order, these are.
+//! A condition read into its tree: its tokens, and the tree whose tokens, in order, these are.
 #![tactic(auto)]
 
 mod condition;

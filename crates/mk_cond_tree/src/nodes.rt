@@ -1,4 +1,4 @@
-//! The tree of a condition.
+//! The tree of a condition: conjunctions and terms.
 
 use crate::tokens::{Call, Comparison, Side};
 use mk_text::Span;

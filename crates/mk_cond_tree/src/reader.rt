@@ -1,4 +1,4 @@
-//! Tokens read into their tree.
+//! The tokens of a condition read into its tree.
 ghost use Rattle.std.specs.Prelude.{◌≡◌, map, option_map, IfOk};
 ghost use Rattle.mk_cond_tree.specs.Reader.{after_or, after_and, after_right, first_side, first_comparison};
 ghost use Rattle.mk_cond_tree.specs.Reader.{side_term, negation_below, group_below, operands, read_not, read_and};
@@ -12,7 +12,7 @@ use std::alloc::{AllocError, Global};
 /// What was read off the front of tokens, and what is left after it.
 type Read<'t, T> = Option<(T, &'t [Token])>;
 
-/// The tokens after a `||` that comes first.
+/// The tokens of a condition after a `||` that comes first.
 fn after_or(tokens: &[Token]) -> Option<&[Token]>
     ensures { tokens_left result ≡ after_or tokens.now }
 {
@@ -22,7 +22,7 @@ fn after_or(tokens: &[Token]) -> Option<&[Token]>
     }
 }
 
-/// The tokens after a `&&` that comes first.
+/// The tokens of a condition after a `&&` that comes first.
 fn after_and(tokens: &[Token]) -> Option<&[Token]>
     ensures { tokens_left result ≡ after_and tokens.now }
 {
@@ -32,7 +32,7 @@ fn after_and(tokens: &[Token]) -> Option<&[Token]>
     }
 }
 
-/// The tokens after a `)` that comes first.
+/// The tokens of a condition after a `)` that comes first.
 fn after_right(tokens: &[Token]) -> Option<&[Token]>
     ensures { tokens_left result ≡ after_right tokens.now }
 {
@@ -42,7 +42,7 @@ fn after_right(tokens: &[Token]) -> Option<&[Token]>
     }
 }
 
-/// The side that comes first, and the tokens after it.
+/// The side of a comparison that is the first token of a condition, and the tokens after it.
 fn first_side(tokens: &[Token]) -> Read<'_, Side>
     ensures { read_as_it_is result ≡ first_side tokens.now }
 {
@@ -52,7 +52,7 @@ fn first_side(tokens: &[Token]) -> Read<'_, Side>
     }
 }
 
-/// The sign of a comparison that comes first, and the tokens after it.
+/// The sign of a comparison that is the first token of a condition, and the tokens after it.
 fn first_comparison(tokens: &[Token]) -> Read<'_, Comparison>
     ensures { read_as_it_is result ≡ first_comparison tokens.now }
 {
@@ -62,7 +62,8 @@ fn first_comparison(tokens: &[Token]) -> Read<'_, Comparison>
     }
 }
 
-/// The condition that tokens begin with.
+/// The tree of the condition that tokens begin with (conjunctions with `||` between them), and the tokens
+/// after it.
 #[cycle(reading)]
 fn read_or(
     alloc: Global,
@@ -80,7 +81,7 @@ fn read_or(
     }
 }
 
-/// The conjunctions that tokens begin with, each after a `||`.
+/// The conjunctions that a condition's tokens begin with, each after a `||`, and the tokens after them.
 #[cycle(reading)]
 fn later_ands(
     alloc: Global,
@@ -102,7 +103,8 @@ fn later_ands(
     Ok(Some((more, rest)))
 }
 
-/// The conjunction that tokens begin with.
+/// The conjunction that a condition's tokens begin with (terms with `&&` between them), and the tokens after
+/// it.
 #[cycle(reading)]
 fn read_and(
     alloc: Global,
@@ -120,7 +122,7 @@ fn read_and(
     }
 }
 
-/// The terms that tokens begin with, each after a `&&`.
+/// The terms that a condition's tokens begin with, each after a `&&`, and the tokens after them.
 #[cycle(reading)]
 fn later_nots(
     alloc: Global,
@@ -142,7 +144,8 @@ fn later_nots(
     Ok(Some((more, rest)))
 }
 
-/// The term that tokens begin with.
+/// The term that a condition's tokens begin with (`!`, a group, a call, a comparison or a side), and the
+/// tokens after it.
 #[cycle(reading)]
 fn read_not(alloc: Global, tokens: &[Token], levels: usize) -> Result<Read<'_, Term>, AllocError>
     ensures { IfOk result (λ read. shown_read term_tree read ≡ read_not levels tokens.now) }
@@ -156,7 +159,8 @@ fn read_not(alloc: Global, tokens: &[Token], levels: usize) -> Result<Read<'_, T
     }
 }
 
-/// The term after a `!`, negated.
+/// The term of a condition after a `!`, negated, and the tokens after it. It is `None` if no more levels are
+/// left.
 #[cycle(reading)]
 fn negation(alloc: Global, tokens: &[Token], levels: usize) -> Result<Read<'_, Term>, AllocError>
     ensures { IfOk result (λ read. shown_read term_tree read ≡ negation_below levels tokens.now) }
@@ -170,7 +174,8 @@ fn negation(alloc: Global, tokens: &[Token], levels: usize) -> Result<Read<'_, T
     }
 }
 
-/// The condition after a parenthesis, as a group, if the parenthesis closes.
+/// The condition after a parenthesis, as a term, if the parenthesis closes, and the tokens after it. It is
+/// `None` if no more levels are left.
 #[cycle(reading)]
 fn group(alloc: Global, tokens: &[Token], levels: usize) -> Result<Read<'_, Term>, AllocError>
     ensures { IfOk result (λ read. shown_read term_tree read ≡ group_below levels tokens.now) }
@@ -187,7 +192,8 @@ fn group(alloc: Global, tokens: &[Token], levels: usize) -> Result<Read<'_, Term
     }
 }
 
-/// The side before tokens: compared with the side after a sign that they begin with, or alone.
+/// The term of a condition that begins with this side: compared with the side after a sign that the tokens
+/// begin with, or alone.
 fn side_term(left: Side, tokens: &[Token]) -> Read<'_, Term>
     ensures { shown_read term_tree result ≡ side_term left tokens.now (first_comparison tokens.now) }
 {
@@ -200,7 +206,8 @@ fn side_term(left: Side, tokens: &[Token]) -> Read<'_, Term>
     }
 }
 
-/// The tree of tokens; `None` if they have none.
+/// The tree of a condition's tokens, with at most this many `!` and parentheses one inside another; `None` if
+/// they have none.
 pub(crate) fn read(
     alloc: Global,
     tokens: &[Token],

@@ -1,4 +1,4 @@
-//! Conditions cut into tokens.
+//! The scanner, which cuts a condition's text into tokens.
 ghost use Rattle.std.specs.Prelude.{◌≡◌, ◌==◌, ◌<◌, ◌≤◌, ◌+◌, length, drop, option_map};
 ghost use Rattle.std.specs.Prelude.{None, Some, slice_index, true, IfOk, IfSome};
 ghost use Rattle.mk_cond_tree.specs.Tokens.{is_stop, call_of, tokens_of};
@@ -9,8 +9,8 @@ use crate::tokens::{Call, Comparison, Side, Token};
 use mk_text::{Span, is_blank};
 use std::alloc::{AllocError, Global};
 
-/// The tokens of a condition in which dollars cover the references; `None` if it can't be cut into
-/// tokens. The time is linear in its length.
+/// The tokens of a condition in which dollars cover the references; `None` if it can't be cut into tokens.
+/// The time is linear in the condition's length.
 ///
 /// # Errors
 ///
@@ -34,7 +34,7 @@ pub(crate) fn tokens(alloc: Global, bytes: &[u8]) -> Result<Option<Vec<Token>>, 
     Ok(Some(found))
 }
 
-/// The token that begins at `at`, where there is no blank, and the place after it.
+/// The token of a condition that begins at `at`, where there is no blank, and the place after it.
 #[tactic(auto, unfolding(crate::specs::Scanner::token_at))]
 fn token_at(bytes: &[u8], at: usize) -> Option<(Token, usize)>
     requires { at < length bytes.now }
@@ -65,7 +65,7 @@ fn token_at(bytes: &[u8], at: usize) -> Option<(Token, usize)>
     }
 }
 
-/// Whether this byte is at a place.
+/// Whether this byte is at this place of a condition's text.
 fn is_at(bytes: &[u8], at: usize, byte: u8) -> bool
     requires { at ≤ length bytes.now }
     ensures value { result ≡ begins byte (drop at bytes.now) }
@@ -74,7 +74,8 @@ fn is_at(bytes: &[u8], at: usize, byte: u8) -> bool
     at < bytes.len() && bytes[at] == byte
 }
 
-/// The sign at a place: `with_equals` if `=` follows its first byte, else `alone`.
+/// The token of a sign at a place of a condition (`with_equals` if `=` follows its first byte, else `alone`),
+/// and the place after it.
 fn sign(bytes: &[u8], at: usize, with_equals: Token, alone: Token) -> Option<(Token, usize)>
     requires { at < length bytes.now }
     ensures token { result ≡ sign_of_two_or_one at (begins 61 (drop (at + 1) bytes.now)) with_equals alone }
@@ -87,7 +88,7 @@ fn sign(bytes: &[u8], at: usize, with_equals: Token, alone: Token) -> Option<(To
     }
 }
 
-/// The sign at a place, if `second` follows its first byte.
+/// The token of a sign of two bytes, as `&&`, at a place of a condition, if `second` follows its first byte.
 fn pair(bytes: &[u8], at: usize, second: u8, token: Token) -> Option<(Token, usize)>
     requires { at < length bytes.now }
     ensures token { result ≡ sign_of_two at (begins second (drop (at + 1) bytes.now)) token }
@@ -100,7 +101,8 @@ fn pair(bytes: &[u8], at: usize, second: u8, token: Token) -> Option<(Token, usi
     }
 }
 
-/// The quoted side whose text begins at `start`, and the place after it; `None` if no quote closes it.
+/// The quoted side of a condition whose text begins at `start`, and the place after it; `None` if no quote
+/// closes it.
 fn quoted_side(bytes: &[u8], start: usize) -> Option<(Token, usize)>
     requires { start ≤ length bytes.now }
     ensures token { result ≡ quoted_side start (place_of_first (λ b. b == 34) start (drop start bytes.now)) }
@@ -114,8 +116,8 @@ fn quoted_side(bytes: &[u8], start: usize) -> Option<(Token, usize)>
     None
 }
 
-/// The side without quotes that begins at a place, or the call, and the place after it. It is `None` if
-/// the parenthesis of a call isn't closed.
+/// The token of a word at a place of a condition (a side without quotes, or a call), and the place after it.
+/// If the parenthesis of a call isn't closed, it is `None`.
 fn word_at(bytes: &[u8], at: usize) -> Option<(Token, usize)>
     requires { at < length bytes.now }
     ensures token { result ≡ word_at at (slice_index bytes.now at) (drop (at + 1) bytes.now) }
@@ -142,7 +144,7 @@ fn word_at(bytes: &[u8], at: usize) -> Option<(Token, usize)>
     }
 }
 
-/// Whether a byte ends a side.
+/// Whether a byte ends a side without quotes in a condition, as a blank, a parenthesis or a sign does.
 fn is_stop(byte: u8) -> bool
     ensures { result ≡ is_stop byte }
 {
@@ -158,7 +160,7 @@ fn is_stop(byte: u8) -> bool
         || byte == b'"'
 }
 
-/// The end of the side without quotes that goes on at a place.
+/// The end of the side without quotes that goes on at this place of a condition.
 fn side_end(bytes: &[u8], start: usize) -> usize
     requires { start ≤ length bytes.now }
     ensures place { result ≡ first_or_end is_stop start (drop start bytes.now) }
@@ -172,7 +174,7 @@ fn side_end(bytes: &[u8], start: usize) -> usize
     bytes.len()
 }
 
-/// The end of the blanks that begin at a place.
+/// The end of the blanks that begin at this place of a condition.
 fn blanks_end(bytes: &[u8], start: usize) -> usize
     requires { start ≤ length bytes.now }
     ensures place { result ≡ blanks_end start (drop start bytes.now) }
@@ -186,7 +188,7 @@ fn blanks_end(bytes: &[u8], start: usize) -> usize
     bytes.len()
 }
 
-/// The call with this word.
+/// The call of a condition with this word, as `defined` or `exists`.
 fn call_of(word: &[u8]) -> Option<Call>
     ensures { result ≡ call_of word.now }
 {
@@ -205,7 +207,7 @@ fn call_of(word: &[u8]) -> Option<Call>
     }
 }
 
-/// The place of the parenthesis that closes the one directly before `start`.
+/// The place in a condition of the parenthesis that closes the one directly before `start`.
 fn closing_place(bytes: &[u8], start: usize) -> Option<usize>
     requires { start ≤ length bytes.now }
     ensures place { result ≡ closing_place start 0 (drop start bytes.now) }

@@ -1,4 +1,4 @@
-//! What a condition is made of: signs, sides and calls.
+//! The tokens that a condition is made of: signs, sides and calls.
 
 use mk_text::Span;
 

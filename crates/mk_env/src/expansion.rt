@@ -1,4 +1,4 @@
-//! Texts with their references expanded.
+//! Texts of a makefile with their references expanded, among its variables.
 ghost use Rattle.mk_base.specs.Meter.{IsLater};
 ghost use Rattle.mk_env.specs.Expansion.{expand, expand_now, variable};
 ghost use Rattle.mk_env.specs.ExpansionResults.{GivesText, ExpandsInside, Modifies};
@@ -14,9 +14,9 @@ use std::alloc::Global;
 /// How many references may be nested, over values, names and modifiers.
 pub const REFERENCE_LEVELS: u32 = 32;
 
-/// The text with each reference replaced by what it means, from the left, and each `$$` by one dollar
-/// (make(1), "VARIABLES"). Each reference costs one unit of the budget. The budget says afterwards what
-/// was spent, after a fault too. The value of a variable that isn't defined is an empty text.
+/// The expansion of a text: each reference replaced by what it means, from the left, and each `$$` by one
+/// dollar (make(1), "VARIABLES"). Each reference costs one unit of the budget. The budget says afterwards
+/// what was spent, after a fault too. The value of a variable that isn't defined is an empty text.
 ///
 /// # Errors
 ///
@@ -44,9 +44,10 @@ pub fn expand(
     expand_text(alloc, ExpansionScope::outermost(variables), text, budget)
 }
 
-/// What `:=` stores. It is the same as `expand`, except for a reference in the text itself whose name,
-/// once expanded, isn't defined. Such a reference is kept as it is written, and its modifiers aren't
-/// read. It costs its unit and what its name costs. The errors are those of `expand`.
+/// What the assignment `:=` stores: the expansion of a text by `expand`, except for references in the text
+/// itself to variables that aren't defined. If the name of such a reference, once expanded, isn't defined, it
+/// is kept as it is written, and its modifiers aren't read. It costs its unit and what its name costs. The
+/// errors are those of `expand`.
 pub fn expand_now(
     alloc: Global,
     variables: &Env,
@@ -63,8 +64,8 @@ pub fn expand_now(
     expand_text(alloc, scope, text, budget)
 }
 
-/// What a reference to this variable means, with the costs and errors of `expand`. If the name isn't
-/// defined, that is an empty text. The name is taken as it is, and isn't expanded.
+/// What a reference to the variable of this name expands to, with the costs and errors of `expand`. If the
+/// name isn't defined, that is an empty text. The name is taken as it is, and isn't expanded.
 pub fn expand_variable(
     alloc: Global,
     variables: &Env,
@@ -79,9 +80,9 @@ pub fn expand_variable(
     expand_named(alloc, scope, name, None, budget)
 }
 
-/// What a reference with this inside means. The inside is a name and, after its first colon outside
-/// references, modifiers, as in `empty(NAME:MODIFIERS)` of a condition (make(1), "CONDITIONALS"). A mark
-/// that would close a reference is a byte like any other in it.
+/// What a reference with this inside expands to. The inside is a name and, after its first colon outside
+/// references, modifiers, as in `empty(NAME:MODIFIERS)` of a condition (make(1), "CONDITIONALS"). A mark that
+/// would close a reference is a byte like any other in it.
 ///
 /// Its costs and errors are those that `expand` has for a reference that isn't inside another. If a
 /// reference in the inside doesn't end, the fault is `Reference`, before anything is paid.
@@ -98,9 +99,9 @@ pub fn expand_inside(
     expand_reference(alloc, ExpansionScope::outermost(variables), mention, budget)
 }
 
-/// What these modifiers, which follow the colon of a reference, make of a text. The text is given in
-/// place of that reference's value, such as the word that a loop puts there, and is taken as it is. The
-/// reference is already paid for, and the references in the modifiers count as inside it.
+/// What the modifiers that follow the colon of a reference make of a text, among these variables. The text is
+/// given in place of that reference's value, such as the word that a loop puts there, and is taken as it is.
+/// The reference is already paid for, and the references in the modifiers count as inside it.
 ///
 /// The fault is `Modifier` if the modifiers can't be read. Then come the faults of applying them from
 /// left to right, as for `expand`. The other error is that memory runs out.

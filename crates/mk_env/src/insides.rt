@@ -1,4 +1,4 @@
-//! References that are given by what is inside them.
+//! References that are given by their inside, as in `empty(NAME:MODIFIERS)`.
 ghost use Rattle.std.specs.Prelude.{◌≡◌, ◌==◌, ◌<◌, ◌+◌, [], length, take, drop, slice_index, IfOk, IfErr, Some};
 ghost use Rattle.std.specs.List.{position};
 ghost use Rattle.mk_ref.specs.Units.{left_of};
@@ -11,7 +11,8 @@ use mk_base::{FaultKind, PureStop};
 use mk_ref::outside;
 use std::alloc::Global;
 
-/// The reference that has this inside. A reference in it that doesn't end is a fault.
+/// The name and the modifiers of the reference that has this inside. If a reference in the inside doesn't
+/// end, that is the fault `Reference`.
 pub(crate) fn mention_of<'a>(
     alloc: Global,
     inside: &'a str,
@@ -27,8 +28,8 @@ pub(crate) fn mention_of<'a>(
     Ok(parted(inside, plain.as_slice()))
 }
 
-/// The reference with this inside, in which every reference ends. `plain` is what `outside` gives
-/// of the inside.
+/// The name and the modifiers of the reference with this inside, in which every reference ends. `plain` is
+/// what `outside` gives of the inside.
 fn parted<'a>(inside: &'a str, plain: &[u8]) -> Mention<'a>
     requires same { plain.now ≡ outside inside.now }
     requires whole { left_of inside.now ≡ [] }
@@ -46,14 +47,14 @@ fn parted<'a>(inside: &'a str, plain: &[u8]) -> Mention<'a>
     }
 }
 
-/// The index of the first colon among these bytes.
+/// The index of the first colon in a reference's inside: there its name ends.
 fn first_colon(bytes: &[u8]) -> Option<usize>
     ensures { result ≡ position (λ b. b == 58) bytes.now }
 {
     bytes.iter().position(|byte| *byte == b':')
 }
 
-/// The reference with this inside, whose name ends at the colon at this index.
+/// The name and the modifiers of the reference with this inside, whose name ends at the colon at this index.
 fn parted_at<'a>(inside: &'a str, at: usize) -> Mention<'a>
     requires within { at < length inside.now }
     requires colon { slice_index inside.now at ≡ 58 }

@@ -1,4 +1,5 @@
-//! Texts cut at their references, and each reference by its texts.
+//! Texts to be expanded, cut at their references, and each reference as it is mentioned: its name and its
+//! modifiers.
 ghost use Rattle.std.specs.Prelude.{◌≡◌, [], All, string_bytes, IfOk, IfErr};
 ghost use Rattle.mk_text.specs.Words.{span_text};
 ghost use Rattle.mk_ref.specs.Units.{left_of};
@@ -21,7 +22,7 @@ pub(crate) struct Mention<'a> {
     pub(crate) modifiers: Option<&'a str>,
 }
 
-/// The texts of a reference that is in this text.
+/// The texts of a reference that this text mentions: all of it, its name and its modifiers.
 pub(crate) fn mentioned<'a>(text: &'a str, reference: &Reference) -> Mention<'a>
     requires { IsReferenceIn text.now reference.now }
     ensures written { result.written.now ≡ span_text text.now reference.now.whole }
@@ -39,14 +40,15 @@ pub(crate) fn mentioned<'a>(text: &'a str, reference: &Reference) -> Mention<'a>
     }
 }
 
-/// A copy of all that a reference is written as.
+/// A copy of a reference as the text mentions it, for one that isn't expanded.
 pub(crate) fn as_written(alloc: Global, mention: Mention<'_>) -> Result<String, AllocError>
     ensures { IfOk result (λ text. string_bytes text ≡ mention.entry.written.now) }
 {
     String::from_str(alloc, mention.written)
 }
 
-/// The pieces of a text. A reference that doesn't end is a fault.
+/// The pieces of a text that is to be expanded: literals, `$$` pairs and references. If a reference doesn't
+/// end, that is the fault `Reference`.
 pub(crate) fn cut(alloc: Global, text: &str) -> Result<Vec<Piece>, PureStop<FaultKind>>
     ensures pieces { GivesPieces result text.now }
     ensures whole { IfOk result (λ found. left_of text.now ≡ []) }

@@ -13,8 +13,8 @@ use mk_mods::{Modifier, Mods, ModsFault, Substitution, apply, substitute};
 use mk_text::{Profile, TextFault};
 use std::alloc::Global;
 
-/// The modifiers that follow the colon of a reference in this profile, or no modifier if it has no colon. It is a fault
-/// if they can't be read.
+/// The modifiers that follow the colon of a reference that is expanded, read in this profile; none if it has
+/// no colon. If they can't be read, that is the fault `Modifier`.
 pub(crate) fn read_modifiers(
     alloc: Global,
     text: Option<&str>,
@@ -33,7 +33,8 @@ pub(crate) fn read_modifiers(
     }
 }
 
-/// What a modifier whose references are expanded makes of a value.
+/// What a modifier whose references are expanded makes of a value. If the result is too long, that is the
+/// fault `Length`.
 pub(crate) fn apply_expanded(
     alloc: Global,
     modifier: &Modifier,
@@ -50,7 +51,8 @@ pub(crate) fn apply_expanded(
     }
 }
 
-/// What a substitution with these texts makes of a value.
+/// What a substitution (`:S`) with these expanded texts makes of a value. If the result is too long, that is
+/// the fault `Length`.
 pub(crate) fn apply_substitution(
     alloc: Global,
     substitution: &Substitution,

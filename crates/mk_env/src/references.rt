@@ -1,4 +1,4 @@
-//! What references mean, and the texts and modifiers that they are in.
+//! What references expand to, with their names, values and modifiers, and the texts that they are in.
 ghost use Rattle.std.specs.Prelude.{◌≡◌, ◌≢◌, ◌≤◌, string_bytes, length, IfOk, IsTrue};
 ghost use Rattle.mk_base.specs.Meter.{IsLater};
 ghost use Rattle.mk_ref.specs.Places.{IsPieceIn};
@@ -18,7 +18,7 @@ use mk_ref::Piece;
 use mk_text::TEXT_LIMIT;
 use std::alloc::Global;
 
-/// What a text means.
+/// What a text expands to in a scope: its literals, with each reference replaced by what that means.
 #[cycle(expansion)]
 pub(crate) fn expand_text(
     alloc: Global,
@@ -40,7 +40,7 @@ pub(crate) fn expand_text(
     Ok(joined)
 }
 
-/// Adds what a piece of a text means.
+/// Adds what a piece of a text (a literal, a `$$` pair or a reference) expands to.
 #[cycle(expansion)]
 fn join_piece(
     alloc: Global,
@@ -65,7 +65,7 @@ fn join_piece(
     }
 }
 
-/// What a reference means: it is paid for, and its name is expanded.
+/// What a reference expands to: it is paid for, and its name is expanded.
 #[cycle(expansion)]
 #[tactic(auto, unfolding(crate::specs::Expansion::reference))]
 pub(crate) fn expand_reference(
@@ -86,7 +86,7 @@ pub(crate) fn expand_reference(
     expand_by_name(alloc, scope, mention, name.as_str(), budget)
 }
 
-/// Spends the unit of a reference, and checks that it isn't nested too deep.
+/// Spends the unit of a reference that is expanded, and checks that it isn't nested too deep.
 #[tactic(auto, unfolding(crate::specs::Expansion::enter_reference))]
 fn begin_reference(
     scope: ExpansionScope<'_>,
@@ -103,7 +103,7 @@ fn begin_reference(
     Ok(())
 }
 
-/// What a reference that is paid for means, once its name is known.
+/// What a reference that is paid for expands to, once its name is known. It may stay as it is written.
 #[cycle(expansion)]
 fn expand_by_name(
     alloc: Global,
@@ -122,7 +122,8 @@ fn expand_by_name(
     expand_named(alloc, scope.inside(), name, mention.modifiers, budget)
 }
 
-/// What a reference whose name is known means, in the scope of what is inside it.
+/// What a reference whose name is known expands to: the variable's value with the modifiers applied. The
+/// scope is that of what is inside the reference.
 #[cycle(expansion)]
 pub(crate) fn expand_named(
     alloc: Global,
@@ -140,7 +141,8 @@ pub(crate) fn expand_named(
     apply_modifiers(alloc, scope, value, modifiers.as_slice(), budget)
 }
 
-/// The modifiers of a reference to this name. It is a fault if the name's value is being expanded.
+/// The modifiers of a reference to the variable of this name. If the variable's value is being expanded, that
+/// is the fault `Recursive`.
 fn modifiers_for(
     alloc: Global,
     scope: ExpansionScope<'_>,
@@ -155,7 +157,7 @@ fn modifiers_for(
     read_modifiers(alloc, modifiers, scope.variables.profile())
 }
 
-/// What the value of a variable means.
+/// What the value of the variable of this name expands to; nothing if it isn't defined.
 #[cycle(expansion)]
 fn expand_value(
     alloc: Global,
@@ -179,7 +181,7 @@ fn expand_value(
     }
 }
 
-/// What modifiers make of a value, from left to right.
+/// What the modifiers of a reference make of its value, from left to right.
 #[cycle(expansion)]
 pub(crate) fn apply_modifiers(
     alloc: Global,
@@ -198,7 +200,7 @@ pub(crate) fn apply_modifiers(
     Ok(value)
 }
 
-/// What a modifier makes of a value; the references in it are expanded first.
+/// What a modifier of a reference makes of its value; the references in the modifier are expanded first.
 #[cycle(expansion)]
 fn apply_modifier(
     alloc: Global,
@@ -237,7 +239,8 @@ fn apply_modifier(
     }
 }
 
-/// Whether a modifier has texts that are seen to mean themselves. It doesn't look into a substitution.
+/// Whether the texts of a reference's modifier mean themselves, as is seen at once. It doesn't look into a
+/// substitution.
 fn is_literal(modifier: &Modifier) -> bool
     ensures expanded { IsTrue result → IsExpanded (action_of modifier.now) }
     ensures applied { IsTrue result → IsAppliedAsItIs (action_of modifier.now) }
@@ -249,7 +252,7 @@ fn is_literal(modifier: &Modifier) -> bool
     }
 }
 
-/// What parts of a text of `:S` mean, joined from the left, given the old text.
+/// What the parts of the old or the new text of `:S` expand to, joined from the left, given the old text.
 #[cycle(expansion)]
 fn expand_parts(
     alloc: Global,
@@ -268,7 +271,7 @@ fn expand_parts(
     Ok(joined)
 }
 
-/// Adds what a part of a text of `:S` means.
+/// Adds what a part of the old or the new text of `:S` expands to.
 #[cycle(expansion)]
 fn join_part(
     alloc: Global,

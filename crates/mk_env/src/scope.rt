@@ -1,4 +1,4 @@
-//! What the references of a text are expanded with.
+//! The scope in which the references of a text are expanded: variables, names under way, and levels.
 ghost use Rattle.std.specs.Prelude.{◌≡◌, ◌≢◌};
 ghost use Rattle.mk_env.specs.declared.scope.Active.TheVariants as active;
 ghost use Rattle.mk_env.specs.declared.scope.Undefined.TheVariants as kept;
@@ -25,6 +25,7 @@ pub(crate) enum Active<'a> {
 }
 
 impl Active<'_> {
+    /// Whether the value of the variable of this name is being expanded.
     pub(crate) fn contains(&self, name: &str) -> bool
         ensures { result ≡ meaning.is_among name.now (names_of self.now) }
     {
@@ -49,7 +50,7 @@ pub(crate) struct ExpansionScope<'a> {
 }
 
 impl<'a> ExpansionScope<'a> {
-    /// The scope of a text that is inside no reference.
+    /// The scope of the expansion of a text that is inside no reference.
     pub(crate) fn outermost(variables: &'a Env) -> ExpansionScope<'a>
         ensures variables { result.variables ≡ variables.entry }
         ensures active { result.active ≡ active.Nothing }
@@ -64,7 +65,7 @@ impl<'a> ExpansionScope<'a> {
         }
     }
 
-    /// The scope of what is inside a reference: its name and its modifiers.
+    /// The scope in which the inside of a reference is expanded: its name and its modifiers.
     pub(crate) fn inside(self) -> ExpansionScope<'a>
         requires { self.levels ≢ 0 }
         ensures { result ≡ scope_inside self.entry }
@@ -76,7 +77,7 @@ impl<'a> ExpansionScope<'a> {
         }
     }
 
-    /// Whether a reference to the variable of this name is kept as it is written.
+    /// Whether in this scope a reference to the variable of this name is kept as it is written.
     pub(crate) fn keeps(&self, name: &str) -> bool
         ensures { result ≡ is_kept_in self.now name.now }
     {

@@ -33,7 +33,7 @@ impl Model for Env {
 }
 
 impl Env {
-    /// No variable at all, in this profile. It takes no memory.
+    /// The variables of a makefile in this profile: none yet. It takes no memory.
     pub fn new(alloc: Global, profile: Profile) -> Env
         ensures { result ≡ no_variables profile }
     {
@@ -44,8 +44,8 @@ impl Env {
         }
     }
 
-    /// Gives the variable this text, whatever text it had. It fails only if memory runs out, and then
-    /// nothing changes.
+    /// Gives the variable of this name this text, whatever text it had. It fails only if memory runs out, and
+    /// then nothing changes.
     pub fn set(&mut self, name: &str, text: &str) -> Result<(), AllocError>
         ensures ok { OnOk result (self.new ≡ with_text self.old name.now text.now) }
         ensures err { OnErr result (self.new ≡ self.old) }
@@ -56,9 +56,9 @@ impl Env {
         Ok(())
     }
 
-    /// Adds a space and this text to the end of the variable's text. If the variable isn't defined, it
-    /// gets this text (`+=` of make(1)). That takes time in proportion to the added text (amortised),
-    /// however long the variable's text is. It fails only if memory runs out, and then nothing changes.
+    /// Adds a space and this text to the end of the variable's text (`+=` of make(1)). If the variable isn't
+    /// defined, it gets this text. That takes time in proportion to the added text (amortised), however long
+    /// the variable's text is. It fails only if memory runs out, and then nothing changes.
     pub fn append(&mut self, name: &str, text: &str) -> Result<(), AllocError>
         ensures ok { AppendsText result self.old self.new name.now text.now }
         ensures err { OnErr result (self.new ≡ self.old) }
@@ -86,21 +86,22 @@ impl Env {
         self.set(name, text)
     }
 
-    /// Removes the variable, if it is defined (`.undef` of make(1)). It takes no memory.
+    /// Removes the variable of this name, if it is defined (`.undef` of make(1)). It takes no memory.
     pub fn undef(&mut self, name: &str)
         ensures { self.new ≡ without_text self.old name.now }
     {
         self.variables.remove(name);
     }
 
-    /// The profile in which references to the variables are read.
+    /// The profile in which references to these variables of a makefile are read.
     pub fn profile(&self) -> Profile
         ensures { result ≡ language_of self.now }
     {
         self.profile
     }
 
-    /// Another map with the same variables. It fails only if memory runs out; this map stays as it is.
+    /// A copy of these variables of a makefile. It fails only if memory runs out; these variables stay as
+    /// they are.
     pub fn copy(&self) -> Result<Env, AllocError>
         ensures { IfOk result (λ env. env ≡ self.now) }
     {
@@ -112,7 +113,7 @@ impl Env {
         })
     }
 
-    /// The variable's text as it was assigned; `None` if it isn't defined.
+    /// The text of the variable of this name as it was assigned; `None` if the variable isn't defined.
     pub fn get(&self, name: &str) -> Option<&str>
         ensures { option_copied result ≡ text_in self.now name.now }
     {
@@ -122,7 +123,7 @@ impl Env {
         }
     }
 
-    /// Whether the variable is defined.
+    /// Whether the variable of this name is defined.
     pub fn defined(&self, name: &str) -> bool
         ensures { result ≡ is_some (text_in self.now name.now) }
     {

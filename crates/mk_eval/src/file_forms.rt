@@ -1,4 +1,4 @@
-//! The forms in which lines name files.
+//! The forms in which `.include` lines name files: `"f"`, or `<bsd.port.mk>` and other system files.
 ghost use Rattle.std.specs.Prelude.{◌≡◌, ◌<◌, option_map};
 ghost use Rattle.mk_eval.specs.Includes as includes;
 ghost use Rattle.mk_eval.specs.FormViews.{shown_form};
@@ -20,7 +20,7 @@ pub(crate) enum Form<'a> {
     Nothing,
 }
 
-/// The form of a text, without the blanks around it.
+/// The form in which this text of an include names a file, without the blanks around it.
 pub(crate) fn form_of(text: &str) -> Form<'_>
     ensures { shown_form result ≡ includes.form_of text.now }
 {
@@ -32,7 +32,7 @@ pub(crate) fn form_of(text: &str) -> Form<'_>
     }
 }
 
-/// The system file of this name.
+/// The form of an include that names the system file of this name, as `<bsd.port.mk>`.
 fn system_form(name: &str) -> Form<'_>
     ensures { shown_form result ≡ includes.system_form name.now }
 {
@@ -44,7 +44,7 @@ fn system_form(name: &str) -> Form<'_>
     }
 }
 
-/// Whether this is a name `bsd.*.mk`.
+/// Whether an include's name between `<` and `>` is that of a system file, `bsd.*.mk`.
 fn is_system_name(name: &[u8]) -> bool
     ensures { result ≡ includes.is_system_name name.now }
 {
@@ -53,7 +53,8 @@ fn is_system_name(name: &[u8]) -> bool
         && &name[name.len() - 3..] == b".mk".as_slice()
 }
 
-/// What is between these two bytes, with which a text begins and ends; `None` if it doesn't.
+/// The name of a file between these two bytes, with which the text of an include begins and ends; `None` if
+/// it doesn't.
 fn enclosed(first: u8, last: u8, text: &str) -> Option<&str>
     requires first { first < 128 }
     requires last { last < 128 }

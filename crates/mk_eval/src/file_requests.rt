@@ -1,4 +1,4 @@
-//! Files that lines ask for.
+//! Requests of `.include` and `.sinclude` lines for files.
 ghost use Rattle.std.specs.Prelude.{◌≡◌, string_bytes};
 
 use std::marker::Model;
@@ -21,20 +21,21 @@ impl Model for Request {
 }
 
 impl Request {
+    /// The request of a line for the file that this text names. If it is optional, the file may be missing.
     pub(crate) fn new(text: String, optional: bool) -> Request
         ensures { result ≡ record { text = string_bytes text; optional = optional } }
     {
         Request { text, optional }
     }
 
-    /// What follows the directive's word, expanded.
+    /// The text of a line's request for a file: what follows `.include` or `.sinclude`, expanded.
     pub fn text(&self) -> &str
         ensures { result.now ≡ self.now.text }
     {
         self.text.as_str()
     }
 
-    /// Whether the file may be missing, as under `.sinclude`.
+    /// Whether the file that a line requests may be missing, as under `.sinclude`.
     pub fn optional(&self) -> bool
         ensures { result ≡ self.now.optional }
     {

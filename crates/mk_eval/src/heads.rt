@@ -1,4 +1,4 @@
-//! The lines that begin blocks and their branches.
+//! The heads of blocks and of their branches: forms of `.if` and `.elif`, and `.for`.
 ghost use Rattle.std.specs.Prelude.{◌≡◌, IfOk};
 ghost use Rattle.mk_base.specs.Meter.{IsLater};
 ghost use Rattle.mk_ast.specs.Kinds.{shown_kind};
@@ -31,7 +31,8 @@ pub(crate) struct Head<'a> {
     pub(crate) text: &'a str,
 }
 
-/// Whether the condition of a line holds. It costs a unit, before anything else.
+/// Whether the condition of the head of a block or a branch holds: of a form of `.if` or `.elif`. It costs a
+/// unit, before anything else.
 ///
 /// # Errors
 ///
@@ -63,7 +64,7 @@ pub fn holds<F: Names>(
     }
 }
 
-/// What the directive makes of its condition; `None` if it has none.
+/// What this directive at the head of a block makes of its condition; `None` if it has none.
 fn form_of(word: Directive) -> Option<Form>
     ensures { result ≡ heads.form_of word }
 {
@@ -78,13 +79,15 @@ fn form_of(word: Directive) -> Option<Form>
     }
 }
 
+/// What a directive at the head of a block makes of its condition: what a lone word asks, and whether it is
+/// negated.
 fn form(word: Call, negated: bool) -> Form
     ensures { result ≡ record { word = word; negated = negated } }
 {
     Form { word, negated }
 }
 
-/// The same of the directive that a line of this kind is.
+/// What a head of a block of this kind of line makes of its condition; `None` if the line has no condition.
 fn form_in(kind: LineKind<'_>) -> Option<Form>
     ensures { result ≡ heads.form_in (shown_kind kind.entry) }
 {
@@ -94,7 +97,7 @@ fn form_in(kind: LineKind<'_>) -> Option<Form>
     }
 }
 
-/// A text with the words of the loops around it put in; `None` if it stays as it is.
+/// The text of a block's head with the words of the loops around it put in; `None` if it stays as it is.
 fn put_in(
     alloc: Global,
     variables: &Env,
@@ -111,8 +114,8 @@ fn put_in(
     put_words(alloc, variables, loops, text, budget)
 }
 
-/// What follows the word of a line of this kind, with the words of the loops around it put in. It costs
-/// a unit, before anything else.
+/// What follows the directive's word at the head of a block, with the words of the loops around it put in. It
+/// costs a unit, before anything else.
 fn head_text(
     alloc: Global,
     variables: &Env,
@@ -134,7 +137,7 @@ fn head_text(
     }
 }
 
-/// Whether the condition of this line, a form of `.if` or `.elif`, holds in the named makefile. It costs
+/// Whether the condition of a block's head, a form of `.if` or `.elif`, holds in the named makefile. It costs
 /// a unit, before anything else.
 pub(crate) fn judge<F: Names>(
     alloc: Global,
@@ -163,8 +166,8 @@ pub(crate) fn judge<F: Names>(
     directive_truth(alloc, setting, files, budget)
 }
 
-/// The header of the loop that this line begins, with the words of the loops around it put in. It costs
-/// a unit, before anything else.
+/// The text after the `.for` at the head of a loop, with the words of the loops around it put in. It costs a
+/// unit, before anything else.
 pub(crate) fn header_text(
     alloc: Global,
     head: Head<'_>,
@@ -178,7 +181,7 @@ pub(crate) fn header_text(
     head_text(alloc, head.variables, head.loops, kind, budget)
 }
 
-/// The iterations of the loop that this line begins.
+/// The iterations of the loop with this head, a `.for` line. The header costs a unit, before anything else.
 pub(crate) fn loop_iterations(
     alloc: Global,
     head: Head<'_>,

@@ -1,4 +1,4 @@
-//! The files that lines ask for.
+//! The files that lines include, opened: those with names in quotes, and the one of `<bsd.port.mk>`.
 ghost use Rattle.std.specs.Prelude.{◌≡◌, IfOk};
 ghost use Rattle.mk_base.specs.Meter.{IsLater};
 ghost use Rattle.mk_files.specs.Work.{Asks};
@@ -48,10 +48,10 @@ pub struct Included {
     pub content: Content,
 }
 
-/// The file that a request opens, if any. Of the system files only the first `<bsd.port.mk>` opens one:
-/// `../Makefile.inc` of the makefile's directory, if it is there. `<bsd.port.mk>` says that the makefile
-/// is a port's, and `<bsd.port.subdir.mk>` says that it lists ports. The first of these that is included
-/// says what the makefile is.
+/// The file that a line's request to include opens, if any. Of the system files only the first
+/// `<bsd.port.mk>` opens one: `../Makefile.inc` of the makefile's directory, if it is there. `<bsd.port.mk>`
+/// says that the makefile is a port's, and `<bsd.port.subdir.mk>` says that it lists ports. The first of
+/// these that is included says what the makefile is.
 ///
 /// The faults are looked for in this order. `Include` if the text names no file in one of the forms.
 /// `IncludeDepth` if more than 16 files would include one another. `Include` if a name in quotes is no
@@ -82,7 +82,8 @@ pub(crate) fn open_request<F: Files>(
     }
 }
 
-/// A file under the directory of the including file, or with an absolute name.
+/// Opens the included file with this name in quotes: under the directory of the including file, or with an
+/// absolute name.
 fn open_own<F: Files>(
     alloc: Global,
     here: ExecutedFile<'_>,
@@ -107,7 +108,7 @@ fn open_own<F: Files>(
     }
 }
 
-/// The file of this name.
+/// Opens the included file of this name. If it is missing and may not be, that is the fault `Include`.
 fn open_named<F: Files>(
     name: Name,
     optional: bool,
@@ -126,7 +127,7 @@ fn open_named<F: Files>(
     }
 }
 
-/// Says what the makefile describes, unless that was said before.
+/// Notes what the makefile describes by the system file that it includes, unless an earlier one said that.
 fn say(state: &mut EvalState, kind: Kind)
     ensures { state.new ≡ includes.with_makefile_kind state.old kind }
 {
@@ -143,7 +144,8 @@ fn say_first_port(state: &mut EvalState)
     state.shared_asked = true;
 }
 
-/// The file that `<bsd.port.mk>` opens, if any.
+/// Opens the file that an include of `<bsd.port.mk>` stands for, if any: the first time `../Makefile.inc`, if
+/// it is there.
 fn open_port<F: Files>(
     alloc: Global,
     here: ExecutedFile<'_>,
@@ -166,7 +168,7 @@ fn open_port<F: Files>(
     open_if_there(alloc, here, directory, "../Makefile.inc", files, budget)
 }
 
-/// A file under a directory, if it is there. If the text is no file name, it isn't.
+/// Opens an included file under a directory, if it is there. If the text is no file name, it isn't.
 pub(crate) fn open_if_there<F: Files>(
     alloc: Global,
     here: ExecutedFile<'_>,
@@ -188,7 +190,8 @@ pub(crate) fn open_if_there<F: Files>(
     }
 }
 
-/// The file of this name. It is a fault if no more files may include one another.
+/// Opens the included file of this name. If no more files may include one another, that is the fault
+/// `IncludeDepth`.
 fn open_inside<F: Files>(
     here: ExecutedFile<'_>,
     name: Name,

@@ -1,4 +1,4 @@
-//! The iterations of a loop.
+//! The iterations of a loop that a `.for` line begins, and their cost.
 ghost use Rattle.std.specs.Prelude.{◌<◌, IfOk, length};
 ghost use Rattle.mk_base.specs.Meter.{IsLater};
 ghost use Rattle.mk_loop.specs.Scopes.{iterations_in};
@@ -13,7 +13,7 @@ use mk_text::Logical;
 use std::alloc::{AllocError, Global};
 use std::rc::Rc;
 
-/// The iterations of the loop that this line begins.
+/// The iterations of the loop that this `.for` line begins, with the words of the loops around it put in.
 ///
 /// At its line, it is `Budget` if no unit is left. In a loop, the faults of `mk_loop::put_words` come
 /// next. Then come those of `mk_loop::read_header`. The other error is that memory runs out.
@@ -38,7 +38,7 @@ pub fn iterations_at(
     }
 }
 
-/// Spends the unit of an iteration of the loop that this line begins.
+/// Spends the unit of an iteration of the loop that this `.for` line begins.
 ///
 /// It is `Budget` at the line if no unit is left. The other error is that memory runs out.
 pub fn begin_iteration(
@@ -56,8 +56,8 @@ pub fn begin_iteration(
     }
 }
 
-/// These loops, and inside them one more, at its iteration with this index. It fails only if memory runs
-/// out.
+/// The loops around a line of a loop's body, at its iteration with this index: those around the loop, and
+/// inside them this one. It fails only if memory runs out.
 pub fn loops_at(
     alloc: Global,
     loops: &[Iteration],

@@ -1,4 +1,4 @@
-//! What the lines of makefiles do among files, what evaluations begin with and leave, and the values of
+//! What the lines of makefiles do, one at a time, what evaluations begin with and leave, and the values of
 //! variables. The definitions say what a whole makefile means.
 #![tactic(auto)]
 

@@ -1,4 +1,4 @@
-//! What the lines of a makefile do that frame no block: to its variables, and which file they open.
+//! What the lines of makefiles that frame no block do: to the variables, and which file they open.
 ghost use Rattle.std.specs.Prelude.{◌≡◌, OnOk, OnErr, IfOk};
 ghost use Rattle.mk_base.specs.Meter.{IsLater};
 ghost use Rattle.mk_text.specs.Words.{words_of};
@@ -20,8 +20,8 @@ use mk_loop::{Iteration, put_words};
 use mk_text::{Logical, TEXT_LIMIT, words};
 use std::alloc::{AllocError, Global};
 
-/// Does what a line that frames no block says, except executing the file that it opens, if any: that is
-/// the answer. A line that isn't blank costs a unit.
+/// Does what a line of a makefile that frames no block says, except executing the file that it opens, if any:
+/// that is the answer. A line that isn't blank costs a unit.
 ///
 /// # Errors
 ///
@@ -55,9 +55,9 @@ pub fn open_line<F: Files>(
     }
 }
 
-/// Does what the line with this text says. The line doesn't begin, part or end a block. `loops`
-/// are the loops around it, the innermost last. The answer is the file that the line asks for, if it asks for one: opening it is all
-/// that is left to do for `.include` and `.sinclude`.
+/// Does what the line of a makefile with this text says. The line doesn't begin, part or end a block. `loops`
+/// are the loops around it, the innermost last. If the line asks for a file, the answer is that request:
+/// opening the file is all that is left to do for `.include` and `.sinclude`.
 ///
 /// A line that isn't blank costs a unit, before anything else: so it is `Budget` first if no unit is
 /// left. Then the words of the loops are put in, and the line is read. An error leaves the variables
@@ -88,7 +88,7 @@ pub fn perform(
     execute_in(alloc, env, loops, text, kind, budget)
 }
 
-/// Does what a line says whose text, as written, is of this kind.
+/// Does what a line of a makefile in these loops says. Its text, as written, is of this kind.
 fn execute_in(
     alloc: Global,
     env: &mut Env,
@@ -122,7 +122,7 @@ fn execute_in(
     }
 }
 
-/// A text with words put in; if none was put in, it is the text as written.
+/// The text of a line with the words of loops put in; if none was put in, it is the text as written.
 pub(crate) fn put_or<'a>(put: &'a Option<String>, written: &'a str) -> &'a str
     ensures { result.now ≡ made_or_line written.now put.now }
 {
@@ -132,7 +132,8 @@ pub(crate) fn put_or<'a>(put: &'a Option<String>, written: &'a str) -> &'a str
     }
 }
 
-/// Does what a line of this kind says.
+/// Does what a line of a makefile of this kind says: an assignment or a directive. Blank lines, commands and
+/// dependencies do nothing, and a line that can't be read is the fault `Line`.
 fn execute_kind(
     alloc: Global,
     env: &mut Env,
@@ -162,7 +163,7 @@ fn execute_kind(
     }
 }
 
-/// Assigns to the variable of this name.
+/// Does what the line of an assignment says to the variable of this name.
 fn assign(
     alloc: Global,
     env: &mut Env,
@@ -188,7 +189,8 @@ fn assign(
     }
 }
 
-/// Gives the variable this text. It is a fault if the text is too long.
+/// Gives the variable this text, as the line of an assignment says. If the text is too long, that is the
+/// fault `Length`.
 fn store(env: &mut Env, name: &str, text: &str) -> Result<(), PureStop<FaultKind>>
     ensures gives { AssignsFreely operators.Set name.now text.now env.old env.new result }
     ensures err { OnErr result (env.new ≡ env.old) }
@@ -200,7 +202,8 @@ fn store(env: &mut Env, name: &str, text: &str) -> Result<(), PureStop<FaultKind
     Ok(())
 }
 
-/// Gives the variable this text if it has none. It is a fault if that text is too long.
+/// Gives the variable this text if it has none, as a line with `?=` says. If that text is too long, that is
+/// the fault `Length`.
 fn store_default(env: &mut Env, name: &str, text: &str) -> Result<(), PureStop<FaultKind>>
     ensures gives { AssignsFreely operators.Default name.now text.now env.old env.new result }
     ensures err { OnErr result (env.new ≡ env.old) }
@@ -212,7 +215,8 @@ fn store_default(env: &mut Env, name: &str, text: &str) -> Result<(), PureStop<F
     Ok(())
 }
 
-/// Adds the text to the end of the variable's text. It is a fault if the whole is too long.
+/// Adds a text to the end of the variable's text, as a line with `+=` says. If the whole is too long, that is
+/// the fault `Length`.
 fn append(env: &mut Env, name: &str, text: &str) -> Result<(), PureStop<FaultKind>>
     ensures gives { AssignsFreely operators.Append name.now text.now env.old env.new result }
     ensures err { OnErr result (env.new ≡ env.old) }
@@ -228,7 +232,8 @@ fn append(env: &mut Env, name: &str, text: &str) -> Result<(), PureStop<FaultKin
     Ok(())
 }
 
-/// Does what a directive says that belongs to no block. Any other directive is a fault.
+/// Does what the line of a directive that belongs to no block says: `.undef`, `.include` or `.sinclude`. Any
+/// other directive is the fault `Line`.
 fn direct(
     alloc: Global,
     env: &mut Env,
@@ -258,7 +263,7 @@ fn direct(
     }
 }
 
-/// Removes the variable of each word of this text.
+/// Removes the variable of each word of this text, as a line with `.undef` says.
 fn undef_words(alloc: Global, env: &mut Env, text: &str) -> Result<(), AllocError>
     ensures ok { OnOk result (env.new ≡ lines.without_variables env.old (words_of text.now)) }
     ensures err { OnErr result (env.new ≡ env.old) }

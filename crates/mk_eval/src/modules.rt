@@ -1,4 +1,4 @@
-//! The modules that a port names.
+//! The modules that a port names in MODULES, and their files, which `<bsd.port.mk>` includes.
 ghost use Rattle.std.specs.Prelude.{◌≡◌, IfOk, map, option_map, string_bytes};
 ghost use Rattle.mk_base.specs.Meter.{IsLater};
 ghost use Rattle.mk_files.specs.Work.{Asks};
@@ -17,15 +17,15 @@ use mk_text::{Profile, words};
 use std::alloc::{AllocError, Global};
 use text_parts::split_at;
 
-/// Whether modules are included after the next line, if it includes `<bsd.port.mk>`: none did before it, and the make
-/// language is the second profile.
+/// Whether modules are included after the next line, if it includes `<bsd.port.mk>`: no line did before it,
+/// and the make language is the second profile.
 pub fn may_ask_modules(state: &EvalState) -> bool
     ensures { result ≡ modules.may_ask_modules state.now }
 {
     !state.shared_asked && has_modules(state.variables.profile())
 }
 
-/// Whether `<bsd.port.mk>` includes modules too.
+/// Whether `<bsd.port.mk>` includes the modules of MODULES too, in this profile of the make language.
 fn has_modules(profile: Profile) -> bool
     ensures { result ≡ modules.has_modules profile }
 {
@@ -35,8 +35,8 @@ fn has_modules(profile: Profile) -> bool
     }
 }
 
-/// The words of MODULES, expanded, at the line that includes `<bsd.port.mk>`. If it isn't defined, there are none,
-/// at no cost.
+/// The words of MODULES, expanded, at the line that includes `<bsd.port.mk>`. If MODULES isn't defined, there
+/// are none, at no cost.
 ///
 /// At the line, the faults are those of `mk_env::expand_variable`. The other error is that memory runs out.
 pub fn module_words(
@@ -54,7 +54,7 @@ pub fn module_words(
     }
 }
 
-/// The words of MODULES, expanded.
+/// The words of MODULES, expanded among these variables; none if it isn't defined.
 fn expanded_words(
     alloc: Global,
     variables: &Env,
@@ -70,7 +70,7 @@ fn expanded_words(
     Ok(words_of(alloc, text.as_str())?)
 }
 
-/// The words of a text, each as a text of its own.
+/// The words of the text of MODULES, each as a text of its own.
 fn words_of(alloc: Global, text: &str) -> Result<Vec<String>, AllocError>
     ensures { IfOk result (λ found. map string_bytes found.items ≡ splits.words_of text.now) }
 {
@@ -124,7 +124,7 @@ pub fn open_module<F: Files>(
     }
 }
 
-/// The file of this name in the first of these trees that has one.
+/// Opens the file of a module: the one of this name in the first of these trees that has one.
 fn open_first<F: Files>(
     alloc: Global,
     here: ExecutedFile<'_>,
@@ -148,7 +148,8 @@ fn open_first<F: Files>(
     Ok(None)
 }
 
-/// The file of the module that a word names, in a tree. It is `None` if the word isn't `category/name`.
+/// The file of the module that a word of MODULES names, in a tree: `category/name/name.port.mk`. It is `None`
+/// if the word isn't `category/name`.
 fn module_file(alloc: Global, word: &str) -> Result<Option<String>, AllocError>
     ensures { IfOk result (λ file. option_map string_bytes file ≡ modules.module_file word.now) }
 {
@@ -163,7 +164,7 @@ fn module_file(alloc: Global, word: &str) -> Result<Option<String>, AllocError>
     Ok(Some(file))
 }
 
-/// The name of the module that a word with these parts names.
+/// The name of the module that a word of MODULES with these parts names; `None` if it isn't `category/name`.
 fn module_name<'a>(parts: &[&'a str]) -> Option<&'a str>
     ensures { option_map (λ name. name.now) result ≡ modules.module_name (now_all parts.now) }
 {
@@ -173,7 +174,7 @@ fn module_name<'a>(parts: &[&'a str]) -> Option<&'a str>
     }
 }
 
-/// Whether a part of a word may name a directory.
+/// Whether a part of a word of MODULES may name a directory.
 fn is_directory(part: &str) -> bool
     ensures { result ≡ modules.may_name_directory part.now }
 {

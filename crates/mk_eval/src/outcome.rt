@@ -1,4 +1,4 @@
-//! What an evaluation leaves, or the fault at which it stopped with its cost.
+//! The outcome of an evaluation: what it leaves, or the fault at which it stopped, each with its cost.
 ghost use Rattle.std.specs.Prelude.{◌≡◌, string_bytes};
 ghost use Rattle.mk_eval.specs.Outcome as outcome;
 
@@ -57,20 +57,21 @@ impl Model for Valued {
 }
 
 impl Valued {
+    /// The outcome of the value of a variable: the text that it expands to, and the units spent.
     pub(crate) fn new(text: String, cost: u64) -> Valued
         ensures { result ≡ record { text = string_bytes text; cost = cost } }
     {
         Valued { text, cost }
     }
 
-    /// The text that the value expands to.
+    /// The text that the value of a variable expands to.
     pub fn text(&self) -> &str
         ensures { result.now ≡ self.now.text }
     {
         self.text.as_str()
     }
 
-    /// The units spent, in the value's own budget.
+    /// The units that the value of a variable cost, in a budget of its own.
     pub fn cost(&self) -> u64
         ensures { result ≡ self.now.cost }
     {
@@ -78,7 +79,8 @@ impl Valued {
     }
 }
 
-/// The stop of work that looks at no file; a fault gets the units that were spent.
+/// The outcome of work on a makefile that looks at no file and stopped: if that is a fault, with the units
+/// spent.
 pub fn with_units(stop: PureStop<Fault>, cost: u64) -> PureStop<Failed>
     ensures { result ≡ outcome.with_units cost stop }
 {

@@ -1,4 +1,4 @@
-//! How a file's bytes become its tree.
+//! How the bytes of a makefile become its tree: parsed anew, or shared.
 ghost use Rattle.std.specs.Prelude.{◌≡◌, refl, IfOk};
 ghost use Rattle.std.proofs.Common.{◌∙◌};
 ghost use Rattle.mk_ast.specs.Parser.{parsed};
@@ -16,7 +16,8 @@ use std::rc::Rc;
 pub trait Parses {
     ghost becomes: { Self → Self → Type 0 };
 
-    /// The tree of these bytes, or their fault. It fails only if memory runs out.
+    /// The tree of the makefile with these bytes, or the fault of its parse. It fails only if memory runs
+    /// out.
     fn parsed(&mut self, content: &Content) -> Result<Result<Rc<Makefile>, ParseFault>, AllocError>
         ensures tree { IfOk result (λ found. tree_or_fault found ≡ parsed content.now) }
         ensures left { becomes self.old self.new };
@@ -34,7 +35,7 @@ pub struct Anew {
 }
 
 impl Anew {
-    /// What reads each file anew, in memory of this allocator.
+    /// What parses each makefile anew, in memory of this allocator.
     pub fn new(alloc: Global) -> Anew {
         Anew { alloc }
     }
@@ -47,6 +48,7 @@ impl Parses for Anew {
 
     ghost goes_on = { λ old middle new first second. second ∙ first };
 
+    /// The tree of the makefile with these bytes, parsed anew, or the fault of its parse.
     fn parsed(
         &mut self,
         content: &Content,

@@ -1,4 +1,5 @@
-//! The variables with which an evaluation begins.
+//! The start variables, with which the evaluation of a makefile begins: `.CURDIR`, PORTSDIR, FLAVOR and
+//! others.
 ghost use Rattle.std.specs.Prelude.{map, string_bytes, codes};
 ghost use Rattle.mk_eval.specs.Start as starts;
 ghost use Rattle.mk_eval.specs.Start.{Starts, JoinsTo};
@@ -9,7 +10,8 @@ use mk_paths::{Name, Settings};
 use std::alloc::{AllocError, Global};
 use text_parts::{clones_of, put_in_order};
 
-/// The variables with which the evaluation of the named makefile begins.
+/// The start variables: those with which the evaluation of the named makefile begins, with these flavors or
+/// with none given.
 pub fn start(
     alloc: Global,
     settings: &Settings,
@@ -25,7 +27,8 @@ pub fn start(
     }
 }
 
-/// The variables with which it begins if no flavors are given.
+/// The start variables of the evaluation of a makefile if no flavors are given: `.CURDIR`, PORTSDIR,
+/// PORTSDIR_PATH, MACHINE_ARCH and LOCALBASE.
 fn unflavored_start(alloc: Global, settings: &Settings, makefile: &Name) -> Result<Env, AllocError>
     ensures { Starts result (starts.unflavored_start settings.now makefile.now) }
 {
@@ -39,7 +42,7 @@ fn unflavored_start(alloc: Global, settings: &Settings, makefile: &Name) -> Resu
     Ok(variables)
 }
 
-/// The same with FLAVOR.
+/// The start variables of an evaluation with FLAVOR added, which has these flavors.
 fn with_flavors(alloc: Global, mut variables: Env, flavors: &[String]) -> Result<Env, AllocError>
     ensures { Starts result (starts.with_flavors variables (map string_bytes flavors.now)) }
 {
@@ -48,14 +51,15 @@ fn with_flavors(alloc: Global, mut variables: Env, flavors: &[String]) -> Result
     Ok(variables)
 }
 
-/// The trees of the search path, with colons between them.
+/// The value of PORTSDIR_PATH in the start variables: the trees of the search path, with colons between them.
 fn trees_text(alloc: Global, settings: &Settings) -> Result<String, AllocError>
     ensures { JoinsTo result (starts.between (codes ":") settings.now.path) }
 {
     settings.path.trees().join(alloc, ":")
 }
 
-/// The flavors in the order of their bytes, each once, with spaces between them.
+/// The value of FLAVOR in the start variables: the flavors in the order of their bytes, each once, with
+/// spaces between them.
 fn flavor_text(alloc: Global, flavors: &[String]) -> Result<String, AllocError>
     ensures { JoinsTo result (starts.flavors_text (map string_bytes flavors.now)) }
 {

@@ -1,4 +1,4 @@
-//! The state of an evaluation between two lines.
+//! The state of an evaluation between two lines: its variables, and what was said of the makefile.
 
 use crate::outcome::Kind;
 use mk_env::Env;

@@ -1,4 +1,4 @@
-//! Contents of files, which many holders may share at once.
+//! The content of a file, which many holders may share at once.
 ghost use Rattle.std.specs.Prelude.{◌≡◌, IfOk};
 
 use std::alloc::{AllocError, Global};
@@ -21,7 +21,7 @@ impl Model for Content {
 }
 
 impl Content {
-    /// The content of these bytes. It fails only if memory runs out.
+    /// The content of a file with these bytes, to be shared. It fails only if memory runs out.
     pub fn new(alloc: Global, bytes: Vec<u8>) -> Result<Content, AllocError>
         ensures { IfOk result (λ content. content ≡ bytes.items) }
     {
@@ -30,14 +30,14 @@ impl Content {
         })
     }
 
-    /// The bytes of the content.
+    /// The bytes of a file's content.
     pub fn as_slice(&self) -> &[u8]
         ensures { result.now ≡ self.now }
     {
         self.bytes.as_slice()
     }
 
-    /// The same content once more, without a copy of its bytes. It fails only if no more can share it.
+    /// The content of a file once more, without a copy of its bytes. It fails only if no more can share it.
     pub fn share(&self) -> Result<Content, AllocError>
         ensures { IfOk result (λ content. content ≡ self.now) }
     {

@@ -1,4 +1,4 @@
-//! Worlds of files that can be read.
+//! Worlds of files that can be read, and those that can be listed too.
 ghost use Rattle.std.specs.Prelude.{◌≡◌, IfErr, OnOk, OnErr};
 ghost use Rattle.mk_paths.specs.FilesView.{Fails, AnswersContents};
 ghost use Rattle.mk_files.specs.MemoryFiles.{ListsNames};
@@ -12,7 +12,7 @@ use std::alloc::Global;
 /// Its meaning is that of `Names`. It is one map, which no reading changes, a log of the questions
 /// asked, if the world keeps one, and the count of the questions that failed.
 pub trait Files: Names {
-    /// The content of the file of this name; `None` if it isn't there.
+    /// The content of the file of this name, read in a world of files; `None` if it isn't there.
     ///
     /// The answer is what the map says, and it is added to the log if there is one. A fault leaves
     /// the map and the log as they are. It adds one to the count of failures, which goes no higher
@@ -25,6 +25,7 @@ pub trait Files: Names {
 
 // Files that are lent are read as by their owner.
 impl<F: Files> Files for &mut F {
+    /// The content of the file of this name, read in a world of files that is lent; `None` if it isn't there.
     fn read(&mut self, name: &Name) -> Result<Option<Content>, FilesFault> {
         (**self).read(name)
     }
@@ -32,7 +33,7 @@ impl<F: Files> Files for &mut F {
 
 /// A world of files that can be listed too.
 pub trait Listing: Files {
-    /// The names of all files, in the order of their bytes.
+    /// The names of all files of a world, in the order of their bytes.
     ///
     /// Listing isn't a question, and nothing is added to the log. A fault leaves the map and the log as
     /// they are. It adds one to the count of failures, which goes no higher than 2^64 - 1.
@@ -45,6 +46,7 @@ pub trait Listing: Files {
 
 // The same of files that can be listed.
 impl<F: Listing> Listing for &mut F {
+    /// The names of all files of a world that is lent, in the order of their bytes.
     fn names(&mut self, alloc: Global) -> Result<Vec<String>, FilesFault> {
         (**self).names(alloc)
     }

@@ -1,4 +1,4 @@
-//! A world of files kept in memory.
+//! A world of files kept in memory, for cases.
 ghost use Rattle.std.specs.Prelude.{◌≡◌, OnOk, OnErr};
 ghost use Rattle.refusals.specs.Refused.{refused};
 ghost use Rattle.std.specs.Option.{option_copied};
@@ -32,7 +32,7 @@ impl Model for MemoryFiles {
 }
 
 impl MemoryFiles {
-    /// No file at all. It takes no memory.
+    /// A world of files in memory without any file. It takes no memory.
     pub fn new(alloc: Global) -> MemoryFiles
         ensures { result ≡ empty_holding }
     {
@@ -42,8 +42,8 @@ impl MemoryFiles {
         }
     }
 
-    /// Gives the file of this name this content, whether or not the file was there. It fails only if
-    /// memory runs out, and then nothing changes.
+    /// Gives the file of this name in memory this content, whether or not the file was there. It fails only
+    /// if memory runs out, and then nothing changes.
     pub fn put(&mut self, name: Name, content: Content) -> Result<(), AllocError>
         ensures ok { OnOk result (self.new ≡ with_file self.old name content) }
         ensures err { OnErr result (self.new ≡ self.old) }
@@ -52,7 +52,7 @@ impl MemoryFiles {
         Ok(())
     }
 
-    /// Removes the file of this name, and gives whether it was there.
+    /// Removes the file of this name from memory, and gives whether it was there.
     pub fn remove(&mut self, name: &Name) -> bool
         ensures was_there { result ≡ map.contains_key self.old.files name.now }
         ensures removed { self.new ≡ without_file self.old name.now }
@@ -60,14 +60,14 @@ impl MemoryFiles {
         self.files.remove(name.as_str()).is_some()
     }
 
-    /// The content of the file of this name; `None` if it isn't there.
+    /// The content of the file of this name in memory; `None` if it isn't there.
     pub fn get(&self, name: &Name) -> Option<&Content>
         ensures { option_copied result ≡ map.get self.now.files name.now }
     {
         self.files.get(name.as_str())
     }
 
-    /// Counts one more reading that failed, and gives its fault.
+    /// Counts one more reading of files in memory that failed, and gives its fault.
     fn failed(&mut self, error: AllocError) -> FilesFault
         ensures counted { Fails (view_of self.old) (view_of self.new) }
         ensures memory { result ≡ FilesFault.Memory refused }
@@ -82,12 +82,14 @@ impl Names for MemoryFiles {
 
     ghost fails_with = { IsMemory };
 
+    /// Whether a file of this name is there in memory.
     fn has(&mut self, name: &Name) -> Result<bool, FilesFault> {
         Ok(self.files.contains_key(name.as_str()))
     }
 }
 
 impl Files for MemoryFiles {
+    /// The content of the file of this name, read from memory; `None` if it isn't there.
     fn read(&mut self, name: &Name) -> Result<Option<Content>, FilesFault> {
         let Some(content) = self.get(name) else {
             return Ok(None);
@@ -100,6 +102,7 @@ impl Files for MemoryFiles {
 }
 
 impl Listing for MemoryFiles {
+    /// The names of all files in memory, in the order of their bytes.
     fn names(&mut self, alloc: Global) -> Result<Vec<String>, FilesFault> {
         match names_of(alloc, &self.files) {
             Ok(names) => Ok(names),
@@ -108,7 +111,7 @@ impl Listing for MemoryFiles {
     }
 }
 
-/// The names of these files, in the order of their bytes.
+/// The names of these files in memory, in the order of their bytes.
 fn names_of(alloc: Global, files: &BTreeMap<String, Content>) -> Result<Vec<String>, AllocError>
     ensures { ListsNames result (files_of files.now.entries) }
 {

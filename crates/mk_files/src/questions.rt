@@ -1,4 +1,4 @@
-//! The ways in which work on makefiles asks about files.
+//! The questions about files that work on a makefile asks: whether a file is there, and what it contains.
 ghost use Rattle.std.specs.Prelude.{◌≡◌, [], IfOk, IfErr, OnOk, OnErr};
 ghost use Rattle.std.specs.FinMap.{get, contains_key};
 ghost use Rattle.mk_base.specs.Meter.{question, IsLater};
@@ -14,7 +14,7 @@ use crate::files::Files;
 use mk_base::{Budget, FaultKind, Stop};
 use mk_paths::{FilesFault, Name, Names};
 
-/// How work stops if the files failed with this fault.
+/// How work on a makefile stops if a question about files failed with this fault.
 fn stop_of<K>(fault: FilesFault) -> Stop<K>
     ensures { result ≡ after_questions.stop_of fault }
 {
@@ -24,8 +24,8 @@ fn stop_of<K>(fault: FilesFault) -> Stop<K>
     }
 }
 
-/// Whether a file of this name is there. The question isn't counted. It is added to the log with its
-/// answer, if there is a log.
+/// Whether a file of this name is there: a question about files that isn't counted. It is added to the log
+/// with its answer, if there is a log.
 ///
 /// If the files fail, their fault is returned as it is, as `Store` or `Memory`. The files have then
 /// counted one more failure, and are otherwise the same. It never gives `Fault`.
@@ -42,8 +42,8 @@ pub fn look_has<F: Names, K>(files: &mut F, name: &Name) -> Result<bool, Stop<K>
     }
 }
 
-/// The content of a file that no budget pays for, such as the makefile itself; `None` if it isn't there.
-/// The question is added to the log with its answer, if there is a log.
+/// The content of a file, as the makefile itself, by a question that no budget pays for; `None` if it isn't
+/// there. The question is added to the log with its answer, if there is a log.
 ///
 /// If the files fail, their fault is returned as it is, as `Store` or `Memory`. The files have then
 /// counted one more failure, and are otherwise the same. It never gives `Fault`.
@@ -60,7 +60,7 @@ pub fn look_read<F: Files, K>(files: &mut F, name: &Name) -> Result<Option<Conte
     }
 }
 
-/// Whether a file of this name is there. This is one of the 256 questions that an evaluation may ask. It
+/// Whether a file of this name is there: one of the 256 questions about files that an evaluation may ask. It
 /// is counted first, even if the files then fail.
 ///
 /// # Errors
@@ -83,8 +83,8 @@ pub fn ask_has<F: Names>(
     look_has(files, name)
 }
 
-/// The content of the file of this name; `None` if it isn't there. This is one of the 256 questions that
-/// an evaluation may ask. It is counted first, even if the files then fail.
+/// The content of the file of this name; `None` if it isn't there. This is one of the 256 questions about
+/// files that an evaluation may ask. It is counted first, even if the files then fail.
 ///
 /// # Errors
 ///

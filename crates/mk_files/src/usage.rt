@@ -1,4 +1,4 @@
-//! How many files a tenant has, and how many bytes.
+//! How many files a tenant has, and how many bytes, with the limits of both.
 ghost use Rattle.std.specs.Prelude.{◌≡◌, ◌≤◌, false, IfSome, unwrap_or};
 ghost use Rattle.mk_files.specs.Limits.{files_with, bytes_with, exceeds_limits, IsOverWith};
 
@@ -16,8 +16,8 @@ pub struct Usage {
 }
 
 impl Usage {
-    /// The same once a file of this length in bytes is stored in place of one of the old length, or of
-    /// none. It is `None` if that is more than a tenant may have.
+    /// How many files and bytes a tenant has once a file of this length in bytes is stored in place of one of
+    /// the old length, or of none. It is `None` if that is more than a tenant may have.
     pub fn with(self, old: Option<usize>, length: usize) -> Option<Usage>
         requires { unwrap_or old 0 ≤ self.bytes }
         ensures files { IfSome result (λ usage. usage.files ≡ files_with self.files old) }

@@ -1,4 +1,4 @@
-//! Matching a word against a pattern.
+//! A word matched against a pattern of `:M` or `:N`.
 ghost use Rattle.std.specs.Prelude.{◌≡◌, ◌↔◌, ◌≤◌, IsTrue, false, None};
 ghost use Rattle.std.specs.Str.{chars};
 ghost use Rattle.mk_glob.specs.Signs.{signs_of, is_bare};
@@ -31,7 +31,7 @@ enum Step<'t> {
 impl<'t> Rest<'t> {
     ghost use Rattle.mk_glob.specs.Steps.{UnclosedWithin, Learns, IsStep, GoesFurther};
 
-    /// What the pattern's first item does with the word; `unclosed` is as in `item_allows`.
+    /// What the first item of a pattern does with a word; `unclosed` is as in `item_allows`.
     fn step(self, unclosed: &mut usize) -> Step<'t>
         requires known { UnclosedWithin (signs_of self.pattern.now) unclosed.old }
         ensures step { IsStep self.entry result }
@@ -58,7 +58,8 @@ impl<'t> Rest<'t> {
         }
     }
 
-    /// The same pattern, with one character less of the word; `None` if the word is empty.
+    /// What is left of the pattern and of the word, with one character less of the word; `None` if the word
+    /// is empty.
     fn one_further(self) -> Option<Rest<'t>>
         ensures { GoesFurther self.entry result }
     {
@@ -70,8 +71,8 @@ impl<'t> Rest<'t> {
     }
 }
 
-/// Whether an item allows `c`, and what follows the item. It begins with `sign`, goes on in `behind`,
-/// and isn't `*`.
+/// Whether an item of a pattern allows `c`, and what follows the item. It begins with `sign`, goes on in
+/// `behind`, and isn't `*`.
 ///
 /// `unclosed` says from how many bytes before the pattern's end on no bracket is closed any more. If no
 /// more bytes than that follow a `[`, it is itself, and no `]` is looked for.
@@ -99,8 +100,8 @@ fn item_allows<'t>(
     (sign.character() == c, behind)
 }
 
-/// Whether `word` fits `pattern`: whether it can be cut into as many parts as the pattern has items,
-/// each allowed by its item.
+/// Whether `word` fits `pattern`, which is one of `:M` or `:N`: whether it can be cut into as many parts as
+/// the pattern has items, each allowed by its item.
 ///
 /// The items, from the left: `*` allows any run of characters, also none. `?` allows any one character.
 /// A bracket allows one of the characters in it, given singly or as a range with a `-` between its

@@ -1,4 +1,4 @@
-//! The characters of a pattern, with its backslashes read.
+//! The signs of a pattern: its characters, with its backslashes read.
 ghost use Rattle.std.specs.Prelude.{◌≡◌};
 ghost use Rattle.mk_glob.specs.Signs.{character, is_bare};
 ghost use Rattle.mk_glob.specs.FirstSigns.{ReadsChar, ReadsSign};
@@ -13,7 +13,7 @@ pub(crate) enum PatternSign {
 }
 
 impl PatternSign {
-    /// The character that it is.
+    /// The character that a sign of a pattern is.
     pub(crate) fn character(self) -> char
         ensures { result ≡ character self }
     {
@@ -22,7 +22,7 @@ impl PatternSign {
         }
     }
 
-    /// Whether it is this character with no backslash before it.
+    /// Whether a sign of a pattern is this character with no backslash before it.
     pub(crate) fn is_bare(self, c: char) -> bool
         ensures { result ≡ is_bare c self }
     {
@@ -33,7 +33,7 @@ impl PatternSign {
     }
 }
 
-/// The first character of a text, and what follows it; `None` if the text is empty.
+/// The first character of a pattern or of a word, and what follows it; `None` if the text is empty.
 pub(crate) fn first_char(text: &str) -> Option<(char, &str)>
     ensures { ReadsChar text.now result }
 {
@@ -44,8 +44,8 @@ pub(crate) fn first_char(text: &str) -> Option<(char, &str)>
     }
 }
 
-/// The first sign of a pattern, and what follows it; `None` if the pattern is empty. A backslash with
-/// nothing after it is a sign of its own.
+/// The first sign of a pattern (a character, or one that a backslash makes plain), and what follows it;
+/// `None` if the pattern is empty. A backslash with nothing after it is a sign of its own.
 pub(crate) fn first_sign(pattern: &str) -> Option<(PatternSign, &str)>
     ensures { ReadsSign pattern.now result }
 {

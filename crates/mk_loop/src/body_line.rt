@@ -1,4 +1,4 @@
-//! Lines with the words of loops put in.
+//! A line of a loop's body with the words of its iteration put in.
 ghost use Rattle.std.specs.Prelude.{◌≡◌, ◌↔◌, [], None, IfOk, IfErr};
 ghost use Rattle.mk_base.specs.Meter.{IsLater};
 ghost use Rattle.mk_ref.specs.Units.{left_of};
@@ -65,7 +65,8 @@ pub fn put_words(
     pass.finished(body)
 }
 
-/// A reference that doesn't end is a fault.
+/// Checks the line of a loop's body before words are put in. If a reference of it doesn't end, that is the
+/// fault `Reference`.
 fn check_closed(alloc: Global, line: &str) -> Result<(), PureStop<FaultKind>>
     ensures whole { IfOk result (λ _. left_of line.now ≡ []) }
     ensures err { IfErr result (IsUncut line.now) }

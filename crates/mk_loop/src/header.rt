@@ -1,4 +1,4 @@
-//! The header of `.for`.
+//! The header of `.for`, read into the iterations of its loop.
 ghost use Rattle.std.specs.Prelude.{◌≡◌, ◌<◌, length, IfOk};
 ghost use Rattle.mk_base.specs.Meter.{IsLater};
 ghost use Rattle.mk_loop.specs.Scopes.{iterations_in, GivesIterations};
@@ -11,7 +11,7 @@ use mk_text::words;
 use std::alloc::Global;
 
 impl Iterations {
-    /// How many iterations there are.
+    /// How many iterations the header of a loop gives: its words, divided by its variables.
     pub fn count(&self) -> usize
         ensures { result ≡ length (iterations_in self.now) }
     {
@@ -48,8 +48,8 @@ pub fn read_header(
     Ok(Iterations { names, text, words })
 }
 
-/// The variables of a header, and what follows its `in`. It is a fault if there is no `in`, or no
-/// variable before it.
+/// The variables of a loop's header, and what follows its `in`. If there is no `in`, or no variable before
+/// it, that is the fault `For`.
 fn read_form<'a>(
     alloc: Global,
     header: &'a str,

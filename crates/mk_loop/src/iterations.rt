@@ -1,4 +1,4 @@
-//! The iterations of a loop.
+//! The iterations of a loop: its variables, and the words of its header.
 ghost use Rattle.std.specs.Prelude.{◌≤◌, ◌<◌, ◌+◌, ◌*◌, length, string_bytes, All};
 ghost use Rattle.mk_text.specs.Words.{IsSpanOf};
 

@@ -1,4 +1,4 @@
-//! What is joined so far of a text that words are put into.
+//! What is joined so far of a text in which references are replaced by the words of loops.
 ghost use Rattle.std.specs.Prelude.{◌≡◌, string_bytes, IfOk};
 ghost use Rattle.mk_base.specs.Meter.{Meter};
 ghost use Rattle.mk_base.specs.Stops.{GivesPurely};
@@ -18,7 +18,8 @@ pub(crate) struct Joined {
 }
 
 impl Joined {
-    /// Nothing of a text yet. It takes no memory.
+    /// What is joined of a text into which the words of loops are put, before its beginning: nothing. It
+    /// takes no memory.
     pub(crate) fn new(alloc: Global) -> Joined
         ensures { so_far result ≡ nothing }
     {
@@ -28,7 +29,7 @@ impl Joined {
         }
     }
 
-    /// The same with more of the text, as it is written.
+    /// What is joined so far, and after it more of the line of a loop's body, as it is written.
     pub(crate) fn as_written(self, text: &str) -> Result<Joined, AllocError>
         ensures { IfOk result (λ joined. so_far joined ≡ as_written (so_far self) text.now) }
     {
@@ -44,8 +45,8 @@ impl Joined {
         })
     }
 
-    /// The same with a word put in, each dollar of it doubled. It is a fault if the text is
-    /// then too long.
+    /// What is joined so far, and after it the word of a loop, each dollar of it doubled. If the text is then
+    /// too long, that is the fault `Length`.
     pub(crate) fn with_word(self, alloc: Global, word: &str) -> Result<Joined, PureStop<FaultKind>>
         ensures gives { JoinsWord result self word.now }
     {
@@ -61,7 +62,8 @@ impl Joined {
         }
     }
 
-    /// The text at its end. It is a fault if a word was put in and the text is too long.
+    /// The joined text at its end. If the word of a loop was put in and the text is too long, that is the
+    /// fault `Length`.
     pub(crate) fn finished(self) -> Result<String, PureStop<FaultKind>>
         ensures gives { (m : Meter) → GivesPurely string_bytes result m (finished (so_far self) m) }
     {
@@ -72,7 +74,7 @@ impl Joined {
     }
 }
 
-/// The text with each dollar doubled.
+/// The word of a loop with each dollar doubled, so that it means itself in the line.
 fn double_dollars(alloc: Global, text: &str) -> Result<String, AllocError>
     ensures { IfOk result (λ made. string_bytes made ≡ double_dollars text.now) }
 {

@@ -1,4 +1,4 @@
-//! The pass over a line of a loop's body, from left to right.
+//! The pass over a line of a loop's body, from left to right, which puts in words.
 ghost use Rattle.std.specs.Prelude.{◌≡◌, ◌↔◌, ◌≤◌, ◌<◌, ◌+◌, ◌^◌, true, false, [], length, drop};
 ghost use Rattle.std.specs.Prelude.{slice_index, Some, None, All, IfOk};
 ghost use Rattle.mk_base.specs.Meter.{IsLater};
@@ -47,7 +47,7 @@ enum Around {
 }
 
 impl Around {
-    /// The mark that closes it.
+    /// The mark that closes a reference around the place of a pass.
     fn mark(&self) -> u8
         ensures { result ≡ mark_of (surround_of self.now) }
     {
@@ -73,7 +73,7 @@ pub(crate) struct Pass {
 }
 
 impl Pass {
-    /// At the beginning of a line.
+    /// The pass over a line of a loop's body, at the line's beginning.
     pub(crate) fn new(alloc: Global) -> Pass
         ensures joined { so_far result.joined ≡ body_line.nothing }
         ensures around { result.around.items ≡ [] }
@@ -88,14 +88,15 @@ impl Pass {
         }
     }
 
-    /// The place.
+    /// The place in the line that a pass has come to.
     pub(crate) fn at(&self) -> usize
         ensures { result ≡ self.now.at }
     {
         self.at
     }
 
-    /// Goes past the unit or the mark at the place, or into the reference that begins there.
+    /// The pass after one unit or mark of the line of a loop's body, or inside the reference that begins at
+    /// its place.
     pub(crate) fn step(
         self,
         alloc: Global,
@@ -122,7 +123,7 @@ impl Pass {
         }
     }
 
-    /// Whether this byte closes the innermost reference.
+    /// Whether this byte closes the innermost reference around the place of a pass.
     fn closes(&self, byte: u8) -> bool
         ensures { result ≡ closes self.now byte }
     {
@@ -132,7 +133,7 @@ impl Pass {
         }
     }
 
-    /// Goes on by this many bytes, which stay as they are written.
+    /// The pass after this many bytes of the line, which stay as they are written.
     fn on(self, bytes: usize) -> Pass
         requires { self.at + bytes < 2 ^ 64 }
         ensures { result ≡ record self { at = self.at + bytes } }
@@ -143,7 +144,8 @@ impl Pass {
         }
     }
 
-    /// Goes past the reference of one letter at the place.
+    /// The pass after the reference of one letter at its place. If that names a loop's variable, its word is
+    /// put in.
     fn letter(
         self,
         alloc: Global,
@@ -170,7 +172,8 @@ impl Pass {
         }
     }
 
-    /// Goes past the reference at the place, which this mark closes, or into it.
+    /// The pass after the reference at its place, which this mark closes, or inside it. If it names a loop's
+    /// variable, it is replaced by the word.
     fn marked(
         self,
         alloc: Global,
@@ -204,7 +207,7 @@ impl Pass {
         }
     }
 
-    /// Goes into the reference at the place, which stays.
+    /// The pass inside the reference at its place, which stays as it is written.
     fn keep(self, mark: u8) -> Result<Pass, AllocError>
         requires { self.at + 2 < 2 ^ 64 }
         ensures joined { IfOk result (λ next. next.joined ≡ self.joined) }
@@ -222,7 +225,8 @@ impl Pass {
         })
     }
 
-    /// Goes into the modifiers of the reference at the place; they begin at this index.
+    /// The pass inside the modifiers of the reference at its place, which the word of a loop replaces. The
+    /// modifiers begin at this index.
     fn replace(
         self,
         alloc: Global,
@@ -253,7 +257,7 @@ impl Pass {
         })
     }
 
-    /// Goes past the reference from the place up to this index, and puts the word in its place.
+    /// The pass after the reference that ends at this index, with the word of a loop put in its place.
     fn put(
         self,
         alloc: Global,
@@ -278,7 +282,8 @@ impl Pass {
         })
     }
 
-    /// Goes past the mark at the place, which closes the innermost reference.
+    /// The pass after the mark at its place, which closes the innermost reference. If that is replaced, its
+    /// modifiers are applied to its word.
     fn close(
         self,
         alloc: Global,
@@ -328,7 +333,7 @@ impl Pass {
         }
     }
 
-    /// The text at the end of a line; `None` if no word was put in.
+    /// The line of a loop's body after the whole pass; `None` if no word was put in.
     pub(crate) fn finished(self, body: Body<'_>) -> Result<Option<String>, PureStop<FaultKind>>
         requires placed { IsPlaced body.line.now self }
         requires all { self.at ≡ length body.line.now }
@@ -343,7 +348,8 @@ impl Pass {
     }
 }
 
-/// What is joined once the reference after `front` is replaced by what its modifiers make of this word.
+/// What a pass has joined once it has replaced the reference after `front` by what its modifiers make of the
+/// word of a loop.
 fn change(
     alloc: Global,
     variables: &Env,

@@ -1,11 +1,12 @@
-//! Names of references.
+//! The names of references in a line of a loop's body, which may be loop variables.
 ghost use Rattle.std.specs.Prelude.{◌≤◌, ◌<◌, length};
 ghost use Rattle.mk_loop.specs.Places.{EndsName};
 
 use mk_ref::{Opening, opening_at};
 
-/// The index of the colon or the closing mark that follows the name of a reference. The inside of the
-/// reference begins at `start`, and `closing` closes it. `None` if there is a reference in the name.
+/// The index of the colon or the closing mark that follows the name of a reference in a line of a loop's
+/// body. The inside of the reference begins at `start`, and `closing` closes it. `None` if there is a
+/// reference in the name.
 pub(crate) fn name_end(bytes: &[u8], start: usize, closing: u8) -> Option<usize>
     requires start { start ≤ length bytes.now }
     requires ascii { closing < 128 }

@@ -1,4 +1,4 @@
-//! The variables of the loops around a line.
+//! The loops around a line, whose variables are in scope there, the innermost last.
 ghost use Rattle.std.specs.Prelude.{◌≡◌, ◌<◌, [], length, slice_get, Some};
 ghost use Rattle.std.specs.Option.{option_copied};
 ghost use Rattle.mk_loop.specs.LoopWords.{word_of};
@@ -9,7 +9,7 @@ use std::alloc::{AllocError, Global};
 use std::rc::Rc;
 
 impl Iteration {
-    /// The iteration with this index, counted from 0.
+    /// The iteration of a loop with this index, counted from 0.
     pub fn new(iterations: Rc<Iterations>, index: usize) -> Iteration
         requires { index < length (iterations_in iterations.value) }
         ensures { slice_get (iterations_in iterations.value) index ≡ Some (iteration_words result) }
@@ -17,7 +17,8 @@ impl Iteration {
         Iteration { iterations, index }
     }
 
-    /// The word of the variable of this name. If two variables have this name, the first counts.
+    /// The word that an iteration gives the loop's variable of this name. If two variables have this name,
+    /// the first counts.
     fn word(&self, name: &str) -> Option<&str>
         ensures { option_copied result ≡ word_of (iteration_words self.now) name.now }
     {
@@ -37,6 +38,7 @@ impl Iteration {
 impl Clone for Iteration {
     ghost is_clone = { λ iteration copy. iteration_words copy ≡ iteration_words iteration };
 
+    /// A copy of an iteration of a loop, which shares the texts of the loop.
     fn clone(&self) -> Result<Iteration, AllocError> {
         Ok(Iteration {
             iterations: self.iterations.clone()?,
@@ -45,7 +47,7 @@ impl Clone for Iteration {
     }
 }
 
-/// These loops, and inside them one more, at this iteration.
+/// The loops around a line inside one more loop: these, and at the end this iteration of the inner one.
 pub fn inside(
     alloc: Global,
     loops: &[Iteration],
@@ -61,8 +63,8 @@ pub fn inside(
     Ok(inner)
 }
 
-/// The word of the variable of this name in these loops, the innermost last. If several loops have
-/// one, that of the innermost loop counts.
+/// The word of the loop variable of this name in the loops around a line, the innermost last. If several
+/// loops have such a variable, that of the innermost loop counts.
 pub(crate) fn word_in<'a>(loops: &'a [Iteration], name: &str) -> Option<&'a str>
     ensures { option_copied result ≡ word_of (words_in loops.now) name.now }
 {

@@ -1,4 +1,4 @@
-//! The marks of a text of modifiers: its characters, its pairs and its references.
+//! The marks of a text of modifiers: its characters, its `$$` pairs and its references.
 ghost use Rattle.std.specs.Prelude.{◌≡◌, map, Some, IfOk, IfErr};
 ghost use Rattle.std.specs.Str.{chars};
 ghost use Rattle.mk_ref.specs.Places.{piece_in_text, IsPieceIn};
@@ -21,7 +21,7 @@ pub(crate) enum Mark<'t> {
 }
 
 impl Mark<'_> {
-    /// Whether it is this character.
+    /// Whether a mark of a text of modifiers is this character.
     pub(crate) fn is(&self, character: char) -> bool
         ensures { result ≡ is_char character (shown_mark self.now) }
     {
@@ -31,7 +31,7 @@ impl Mark<'_> {
         }
     }
 
-    /// Adds what it is written as to a text.
+    /// Adds a mark of a text of modifiers to another text, as it is written.
     pub(crate) fn write_to(&self, text: &mut String) -> Result<(), AllocError>
         ensures { AddsText result text.old text.new (mark_source (shown_mark self.now)) }
     {
@@ -43,7 +43,8 @@ impl Mark<'_> {
     }
 }
 
-/// The marks of a text, from left to right. It fails with `BadMod` if a reference doesn't end.
+/// The marks of a text of modifiers, from left to right: characters, `$$` pairs and references. It fails with
+/// `BadMod` if a reference doesn't end.
 pub(crate) fn marks(alloc: Global, text: &str) -> Result<Vec<Mark<'_>>, ModsFault>
     ensures ok { IfOk result (λ marks. marks_of text.now ≡ Some (map shown_mark marks.items)) }
     ensures err { IfErr result (IsUnread (marks_of text.now)) }
@@ -55,7 +56,8 @@ pub(crate) fn marks(alloc: Global, text: &str) -> Result<Vec<Mark<'_>>, ModsFaul
     Ok(marks)
 }
 
-/// Adds the marks of a piece of a text.
+/// Adds the marks of a piece of a text of modifiers: its characters, or a `$$` pair or a reference as one
+/// mark.
 fn push_piece<'t>(marks: &mut Vec<Mark<'t>>, piece: &Piece, text: &'t str) -> Result<(), AllocError>
     requires { IsPieceIn text.now piece.now }
     ensures { AddsMarks result marks.old marks.new (piece_marks (piece_in_text text.now piece.now)) }
@@ -68,7 +70,7 @@ fn push_piece<'t>(marks: &mut Vec<Mark<'t>>, piece: &Piece, text: &'t str) -> Re
     Ok(())
 }
 
-/// Adds the characters of a text.
+/// Adds each character of a literal as a mark of a text of modifiers.
 fn push_chars(marks: &mut Vec<Mark<'_>>, literal: &str) -> Result<(), AllocError>
     ensures { AddsMarks result marks.old marks.new (map Char (chars literal.now)) }
 {

@@ -1,4 +1,4 @@
-//! Modifiers applied to values.
+//! Modifiers of references applied to values.
 ghost use Rattle.mk_mods.specs.Actions.{action_of, IsExpanded};
 ghost use Rattle.mk_mods.specs.Applied.{applied};
 ghost use Rattle.mk_mods.specs.Joined.{joined};
@@ -12,7 +12,7 @@ use mk_glob::glob;
 use mk_text::{TextFault, words};
 use std::alloc::Global;
 
-/// What a modifier makes of a value. No part of the modifier may be a reference
+/// What a modifier of a reference makes of a value. No part of the modifier may be a reference
 /// (`Modifier::is_expanded`).
 ///
 /// The value is split into words at blanks (spaces and tabs). `Match` keeps the words that match the
@@ -43,7 +43,7 @@ pub fn apply(alloc: Global, modifier: &Modifier, value: &str) -> Result<String, 
     }
 }
 
-/// The words that match a pattern, or those that don't, joined.
+/// What `:M` or `:N` makes of a value: the words that match a pattern, or those that don't, joined by spaces.
 fn join_kept(alloc: Global, pattern: &str, matching: bool, value: &str) -> Result<String, TextFault>
     ensures ok { MakesText result (joined (kept_words matching pattern.now value.now)) }
     ensures err { FailsTooLong result (joined (kept_words matching pattern.now value.now)) }
@@ -58,7 +58,8 @@ fn join_kept(alloc: Global, pattern: &str, matching: bool, value: &str) -> Resul
     Ok(made)
 }
 
-/// What is made of each word, joined.
+/// What a modifier that changes each word, as `:T` or `old=new`, makes of a value: the changed words, joined
+/// by spaces.
 fn join_changed(alloc: Global, change: WordChange<'_>, value: &str) -> Result<String, TextFault>
     ensures ok { MakesText result (joined (changed_words change.entry value.now)) }
     ensures err { FailsTooLong result (joined (changed_words change.entry value.now)) }

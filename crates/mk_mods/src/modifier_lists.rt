@@ -1,4 +1,4 @@
-//! Modifiers read from a text.
+//! The list of a reference's modifiers, read from the text after its colon.
 ghost use Rattle.std.specs.Prelude.{◌≡◌, ◌<◌, ◌≤◌, length, map, IfOk, IfErr};
 ghost use Rattle.refusals.specs.Refused.{refused};
 ghost use Rattle.mk_mods.specs.Actions.{action_of, replacement_of};
@@ -32,6 +32,7 @@ pub enum ModsFault {
 impl From<AllocError> for ModsFault {
     ghost from_gives = { λ _ fault. fault ≡ Memory refused };
 
+    /// If an allocation is refused, a text isn't read as modifiers, and the fault is `Memory`.
     fn from(error: AllocError) -> ModsFault {
         ModsFault::Memory(OutOfMemory::from(error))
     }
@@ -40,6 +41,8 @@ impl From<AllocError> for ModsFault {
 impl<T: Drop> From<AllocFailed<T>> for ModsFault {
     ghost from_gives = { λ _ fault. fault ≡ Memory refused };
 
+    /// If an allocation that gives a value back is refused, a text isn't read as modifiers, and the fault is
+    /// `Memory`.
     fn from(error: AllocFailed<T>) -> ModsFault {
         ModsFault::Memory(OutOfMemory::from(error))
     }
@@ -48,6 +51,8 @@ impl<T: Drop> From<AllocFailed<T>> for ModsFault {
 impl From<PiecesFault> for ModsFault {
     ghost from_gives = { λ unclosed fault. fault ≡ unread_by unclosed };
 
+    /// Why a text isn't read as modifiers if it isn't cut at its references: `BadMod` if one of these doesn't
+    /// end.
     fn from(fault: PiecesFault) -> ModsFault {
         match fault {
             PiecesFault::Unclosed { .. } => ModsFault::BadMod,
@@ -64,7 +69,8 @@ pub struct Mods {
 }
 
 impl Mods {
-    /// Reads what follows the colon of a reference: modifiers with a colon between each two.
+    /// Reads the list of a reference's modifiers, which is what follows its colon: modifiers with a colon
+    /// between each two.
     ///
     /// References in it are taken whole and stay as they are written; a backslash before one hides
     /// nothing.
@@ -96,7 +102,7 @@ impl Mods {
     }
 }
 
-/// The modifiers that marks are, with colons between them.
+/// The list of modifiers that marks are, with a colon between each two.
 fn modifiers_in(
     alloc: Global,
     profile: Profile,
@@ -119,7 +125,7 @@ fn modifiers_in(
     Ok(modifiers)
 }
 
-/// The first modifier, and the marks after it.
+/// The first modifier of a list that is read in this profile of the make language, and the marks after it.
 fn first_modifier<'m, 't>(
     alloc: Global,
     profile: Profile,
@@ -135,7 +141,8 @@ fn first_modifier<'m, 't>(
     }
 }
 
-/// `old=new`, or else the modifier that begins with a letter of its own, and the marks after it.
+/// The first modifier of a list in profile 2 (`old=new`, or else the modifier that begins with a letter of
+/// its own), and the marks after it.
 fn suffix_or_lettered<'m, 't>(
     alloc: Global,
     marks: &'m [Mark<'t>],
@@ -153,7 +160,8 @@ fn suffix_or_lettered<'m, 't>(
     }
 }
 
-/// The modifier that begins with a letter of its own, and the marks after it.
+/// The first modifier of a list, if it begins with a letter of its own (`M`, `N`, `S`, or one that stands
+/// alone), and the marks after it.
 fn lettered_modifier<'m, 't>(
     alloc: Global,
     marks: &'m [Mark<'t>],
@@ -185,7 +193,7 @@ fn lettered_modifier<'m, 't>(
     }
 }
 
-/// The modifier of one letter; `None` if the letter has none.
+/// The modifier of this one letter, as `T`; `None` if the letter has none.
 fn word_map_of(letter: char) -> Option<WordMap>
     ensures { result ≡ word_map_of letter }
 {
@@ -200,7 +208,7 @@ fn word_map_of(letter: char) -> Option<WordMap>
     }
 }
 
-/// A pattern, and the marks after it.
+/// The pattern of `:M` or `:N`, and the marks after it, which begin with a colon.
 fn pattern_from<'m, 't>(
     alloc: Global,
     marks: &'m [Mark<'t>],
@@ -220,7 +228,7 @@ fn pattern_from<'m, 't>(
     Ok((pattern, &[]))
 }
 
-/// A substitution from its delimiter on, and the marks after it.
+/// The substitution `:S`, read from its delimiter on, and the marks after it.
 fn substitution_from<'m, 't>(
     alloc: Global,
     marks: &'m [Mark<'t>],
@@ -248,7 +256,7 @@ fn substitution_from<'m, 't>(
     Ok((substitution, behind))
 }
 
-/// Whether the flags `g` and `1` of a substitution are given, and the marks after the flags.
+/// Whether the flags `g` and `1` of a substitution `:S` are given, and the marks after the flags.
 fn flags_of<'m, 't>(marks: &'m [Mark<'t>]) -> (bool, bool, &'m [Mark<'t>])
     ensures flags { flags_of (map shown_mark marks.now) ≡ shown_flags result }
     ensures shorter { length result.2.now ≤ length marks.now }

@@ -1,4 +1,4 @@
-//! What modifiers are.
+//! What a modifier of a reference is, as it is read: `:M`, `:N`, `:S`, one of a letter, or `old=new`.
 ghost use Rattle.std.specs.Prelude.{◌↔◌, IsTrue};
 ghost use Rattle.std.specs.List.{flat_map};
 ghost use Rattle.mk_mods.specs.Actions.{action_of, symbols_of, AllPlain, IsExpanded};
@@ -24,9 +24,9 @@ pub enum Modifier {
 }
 
 impl Modifier {
-    /// Whether no part of it is a reference, so that it can be applied. A pattern is a text, and so are the
-    /// two of `old=new`. When these are read they may hold references, and they don't show whether they
-    /// were expanded.
+    /// Whether a modifier may be applied: no part of a substitution in it is a reference. A pattern is a
+    /// text, and so are the two of `old=new`. When these are read they may hold references, and they don't
+    /// show whether they were expanded.
     pub fn is_expanded(&self) -> bool
         ensures { IsTrue result ↔ IsExpanded (action_of self.now) }
     {
@@ -85,7 +85,7 @@ pub enum Part {
     Reference(String),
 }
 
-/// Whether no part is a reference.
+/// Whether no part of a text of a substitution `:S` is a reference.
 fn are_plain(parts: &[Part]) -> bool
     ensures { IsTrue result ↔ AllPlain (flat_map symbols_of parts.now) }
 {

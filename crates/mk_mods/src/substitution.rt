@@ -1,4 +1,4 @@
-//! `:S`: one text in place of another.
+//! The modifier `:S` applied to a value: one text in place of another.
 ghost use Rattle.std.specs.Prelude.{◌<◌, ◌++◌, length};
 ghost use Rattle.std.specs.List.{flat_map};
 ghost use Rattle.mk_mods.specs.Actions.{symbols_of, AllPlain};
@@ -11,7 +11,7 @@ use crate::modifiers::{Part, Substitution};
 use mk_text::{TextFault, add_text, words};
 use std::alloc::Global;
 
-/// What a substitution makes of the words of a value, joined.
+/// What the modifier `:S`, whose parts have no reference, makes of the words of a value, joined by spaces.
 pub(crate) fn join_substituted(
     alloc: Global,
     substitution: &Substitution,
@@ -27,9 +27,9 @@ pub(crate) fn join_substituted(
     join_replaced(alloc, substitution, old.as_str(), new.as_str(), value)
 }
 
-/// What a substitution makes of a value if `old` and `new` are its old and its new text, already
-/// expanded. The parts of the substitution don't matter, only where and how often it acts. If the old
-/// text is empty, it acts only at an anchor. The words are split and joined as by `apply`.
+/// What a substitution (`:S`) makes of a value if `old` and `new` are its old and its new text, already
+/// expanded. The parts of the substitution don't matter, only where and how often it acts. If the old text is
+/// empty, it acts only at an anchor. The words are split and joined as by `apply`.
 ///
 /// The time is at most in proportion to the length of the old text times that of the value, plus that
 /// of the result.
@@ -51,7 +51,8 @@ pub fn substitute(
     join_replaced(alloc, substitution, old, new, value)
 }
 
-/// The text that parts give, among which `Part::Whole` means the old text.
+/// The old or the new text of a substitution `:S`, by its parts, none of which is a reference. `Part::Whole`
+/// means the old text.
 fn text_of(alloc: Global, parts: &[Part], old: &str) -> Result<String, TextFault>
     requires { AllPlain (flat_map symbols_of parts.now) }
     ensures ok { MakesText result (text_of old.now (flat_map symbols_of parts.now)) }
@@ -68,7 +69,7 @@ fn text_of(alloc: Global, parts: &[Part], old: &str) -> Result<String, TextFault
     Ok(made)
 }
 
-/// The words of a value with the new text in place of the old one, joined.
+/// The words of a value, joined by spaces, with the new text of a substitution `:S` in place of the old one.
 fn join_replaced(
     alloc: Global,
     substitution: &Substitution,
@@ -98,7 +99,8 @@ fn join_replaced(
     Ok(made)
 }
 
-/// A word with the new text in place of the old one; `None` if the word doesn't match.
+/// A word after a substitution `:S`: with the new text in place of the old one, where the anchors allow it.
+/// It is `None` if the word doesn't match.
 fn replaced(
     alloc: Global,
     substitution: &Substitution,
@@ -129,8 +131,8 @@ fn replaced(
     }
 }
 
-/// A word with the new text in place of the old one, at the first place or at every one. It is `None`
-/// if the old text is nowhere in the word, or is empty.
+/// A word after a substitution `:S` without anchors: with the new text in place of the old one, at the first
+/// place or at every one. It is `None` if the old text is nowhere in the word, or is empty.
 fn somewhere_replaced(
     alloc: Global,
     every: bool,
@@ -156,8 +158,8 @@ fn somewhere_replaced(
     }
 }
 
-/// A word with the new text in place of each old one, from the left. `front` is the part of the word
-/// before the first old one, and `behind` is what follows that.
+/// A word after a substitution `:S` with the flag `g`: the new text in place of each old one, from the left.
+/// `front` is the part of the word before the first old one, and `behind` is what follows that.
 fn all_replaced(
     alloc: Global,
     old: &str,
@@ -180,7 +182,8 @@ fn all_replaced(
     Ok(made)
 }
 
-/// Three texts joined.
+/// A word that a substitution `:S` made: what is before a place of the old text, the new text, and what is
+/// behind. It fails with `Length` if these are too long.
 fn joined(alloc: Global, front: &str, new: &str, behind: &str) -> Result<String, TextFault>
     ensures ok { MakesText result (front.now ++ (new.now ++ behind.now)) }
     ensures err { FailsTooLong result (front.now ++ (new.now ++ behind.now)) }

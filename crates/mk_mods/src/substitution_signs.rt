@@ -1,4 +1,5 @@
-//! The old and the new text of `:S`, as they are written.
+//! The signs of the old and the new text of a substitution `:S`, as they are written, and the parts that they
+//! give.
 ghost use Rattle.std.specs.Prelude.{◌≡◌, ◌<◌, [], length, map, string_bytes, IfOk, IfErr};
 ghost use Rattle.mk_mods.specs.Signs.{signs_before, sign_of, is_escapable, is_bare, without_start, without_end};
 ghost use Rattle.mk_mods.specs.Views.{shown_mark, shown_sign, shown_signs, IsUnread, IsEscape, IsSignAt, ReadsFirst};
@@ -21,7 +22,7 @@ pub(crate) enum SubstitutionSign<'t> {
 }
 
 impl SubstitutionSign<'_> {
-    /// Whether it is this character, and isn't plain.
+    /// Whether a sign of a substitution `:S` is this character, and isn't plain.
     fn is_bare(&self, character: char) -> bool
         ensures { result ≡ is_bare character (shown_sign self.now) }
     {
@@ -32,7 +33,7 @@ impl SubstitutionSign<'_> {
     }
 }
 
-/// The sign of a mark that no backslash makes plain.
+/// The sign of a substitution `:S` that a mark is, if no backslash makes the mark plain.
 fn sign_of<'t>(mark: Mark<'t>) -> SubstitutionSign<'t>
     ensures { shown_sign result ≡ sign_of (shown_mark mark.entry) }
 {
@@ -43,14 +44,16 @@ fn sign_of<'t>(mark: Mark<'t>) -> SubstitutionSign<'t>
     }
 }
 
-/// Whether a backslash makes a character plain.
+/// Whether a backslash makes a character plain in the texts of a substitution `:S`: the delimiter, `^`, `$`,
+/// `&` and `\`.
 fn is_escapable(delimiter: char, character: char) -> bool
     ensures { result ≡ is_escapable delimiter character }
 {
     character == delimiter || matches!(character, '^' | '$' | '&' | '\\')
 }
 
-/// The plain character that two marks are, if the first is a backslash that makes the second plain.
+/// The plain sign of a substitution `:S` that two marks are, if the first is a backslash that makes the
+/// second plain.
 fn escaped<'t>(delimiter: char, mark: Mark<'t>, next: Mark<'t>) -> Option<SubstitutionSign<'t>>
     ensures { IsEscape result delimiter mark.entry next.entry }
 {
@@ -62,8 +65,8 @@ fn escaped<'t>(delimiter: char, mark: Mark<'t>, next: Mark<'t>) -> Option<Substi
     }
 }
 
-/// The sign that a mark begins, and of how many marks it is made. `behind` is the marks after that
-/// mark.
+/// The sign of a substitution `:S` that a mark begins, and of how many marks it is made. `behind` is the
+/// marks after that mark.
 fn sign_at<'t>(
     delimiter: char,
     mark: Mark<'t>,
@@ -79,8 +82,8 @@ fn sign_at<'t>(
     (sign_of(mark), 1)
 }
 
-/// The signs up to the delimiter, and the marks after it. It fails with `BadMod` if there is no
-/// delimiter.
+/// The signs of the old or the new text of a substitution `:S`, up to the delimiter, and the marks after it.
+/// It fails with `BadMod` if there is no delimiter.
 pub(crate) fn signs_before<'m, 't>(
     alloc: Global,
     delimiter: char,
@@ -104,7 +107,7 @@ pub(crate) fn signs_before<'m, 't>(
     Err(ModsFault::BadMod)
 }
 
-/// Whether signs begin with the anchor `^`, and the other signs.
+/// Whether the signs of the old text of `:S` begin with the anchor `^`, and the other signs.
 pub(crate) fn without_start<'s, 't>(
     signs: &'s [SubstitutionSign<'t>],
 ) -> (bool, &'s [SubstitutionSign<'t>])
@@ -116,7 +119,7 @@ pub(crate) fn without_start<'s, 't>(
     }
 }
 
-/// Whether signs end with the anchor `$`, and the other signs.
+/// Whether the signs of the old text of `:S` end with the anchor `$`, and the other signs.
 pub(crate) fn without_end<'s, 't>(
     signs: &'s [SubstitutionSign<'t>],
 ) -> (bool, &'s [SubstitutionSign<'t>])
@@ -128,7 +131,8 @@ pub(crate) fn without_end<'s, 't>(
     }
 }
 
-/// The parts that signs give, in the old text or in the new one.
+/// The parts that the signs of the old or of the new text of `:S` give: texts, references and, in the new
+/// one, `&`.
 pub(crate) fn parts_of(
     alloc: Global,
     in_new: bool,
@@ -145,7 +149,8 @@ pub(crate) fn parts_of(
     Ok(parts)
 }
 
-/// Adds a sign to parts and the text that follows them, and gives the text that follows them then.
+/// Adds a sign of a substitution `:S` to its parts or to the text that follows them. It gives the text that
+/// follows them then.
 fn push_sign(
     alloc: Global,
     in_new: bool,
@@ -173,7 +178,8 @@ fn push_sign(
     }
 }
 
-/// Adds a text as a part, unless it is empty, and gives an empty text for what comes after it.
+/// Adds a text as a part of a substitution `:S`, unless it is empty, and gives an empty text for what comes
+/// after it.
 fn push_text(alloc: Global, parts: &mut Vec<Part>, text: String) -> Result<String, AllocError>
     ensures empty { IfOk result (λ empty. string_bytes empty ≡ []) }
     ensures parts { LeavesSymbols result parts.new (symbols_with parts.old text) }

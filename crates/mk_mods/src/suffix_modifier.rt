@@ -1,4 +1,4 @@
-//! The modifier `old=new`, read from marks.
+//! The modifier `old=new`, which replaces a suffix, read from marks.
 ghost use Rattle.std.specs.Prelude.{◌≡◌, ◌<◌, ◌+◌, length, map, string_bytes, IfOk, IfSome};
 ghost use Rattle.mk_mods.specs.Grammar.{cut_before, takes_text};
 ghost use Rattle.mk_mods.specs.Views.{shown_mark, shown_cut, ReadsSuffix, source_of_marks};
@@ -7,7 +7,8 @@ use crate::marks::Mark;
 use crate::modifiers::Modifier;
 use std::alloc::{AllocError, Global};
 
-/// Whether marks begin with a letter after which `=` is a character like any other.
+/// Whether a modifier begins with a letter after which `=` is a character like any other, so it isn't
+/// `old=new`.
 pub(crate) fn takes_text(marks: &[Mark<'_>]) -> bool
     ensures { result ≡ takes_text (map shown_mark marks.now) }
 {
@@ -17,7 +18,8 @@ pub(crate) fn takes_text(marks: &[Mark<'_>]) -> bool
     }
 }
 
-/// The modifier `old=new`, and the marks after it. It is `None` if there is no `=` before the next colon.
+/// The modifier `old=new` with which marks begin, and the marks after it. It is `None` if there is no `=`
+/// before the next colon.
 pub(crate) fn suffix_modifier<'m, 't>(
     alloc: Global,
     marks: &'m [Mark<'t>],
@@ -35,7 +37,7 @@ pub(crate) fn suffix_modifier<'m, 't>(
     Ok(Some((Modifier::Suffix { old, new }, behind)))
 }
 
-/// The marks before the first that is this character, and that one with the marks after it.
+/// The marks of the modifier `old=new` cut in two, before the first that is this character: a colon or `=`.
 fn cut_before<'m, 't>(character: char, marks: &'m [Mark<'t>]) -> (&'m [Mark<'t>], &'m [Mark<'t>])
     ensures cut { cut_before character (map shown_mark marks.now) ≡ shown_cut result }
     ensures whole { length result.0.now + length result.1.now ≡ length marks.now }
@@ -48,7 +50,7 @@ fn cut_before<'m, 't>(character: char, marks: &'m [Mark<'t>]) -> (&'m [Mark<'t>]
     (marks, &[])
 }
 
-/// What marks are written as.
+/// The text of one side of the modifier `old=new`, as its marks are written.
 fn written(alloc: Global, marks: &[Mark<'_>]) -> Result<String, AllocError>
     ensures { IfOk result (λ text. string_bytes text ≡ source_of_marks marks.now) }
 {

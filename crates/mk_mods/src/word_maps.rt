@@ -1,4 +1,4 @@
-//! What modifiers make of a word.
+//! What a modifier makes of one word: `:R`, `:E`, `:H`, `:T`, `:L`, `:U` and `old=new`.
 ghost use Rattle.std.specs.Prelude.{◌≡◌, ◌≤◌, ◌++◌, length, string_bytes};
 ghost use Rattle.mk_mods.specs.Made.{AddsWord, FailsToAdd};
 ghost use Rattle.mk_mods.specs.WordChanges.{word_change, with_suffix};
@@ -19,7 +19,7 @@ pub(crate) enum WordChange<'t> {
     Suffix(&'t str, &'t str),
 }
 
-/// What comes before the last dot of a word; without a dot, the word.
+/// What the modifier `:R` makes of a word: what comes before its last dot; without a dot, the word.
 fn root(word: &str) -> &str
     ensures { result.now ≡ word_change maps.Root word.now }
 {
@@ -29,7 +29,7 @@ fn root(word: &str) -> &str
     }
 }
 
-/// What follows the last dot of a word; without a dot, nothing.
+/// What the modifier `:E` makes of a word: what follows its last dot; without a dot, nothing.
 fn extension(word: &str) -> &str
     ensures { result.now ≡ word_change maps.Extension word.now }
 {
@@ -39,7 +39,8 @@ fn extension(word: &str) -> &str
     }
 }
 
-/// What comes before the last slash of a word, or a slash if that is nothing; without a slash, a dot.
+/// What the modifier `:H` makes of a word: what comes before its last slash, or a slash if that is nothing;
+/// without a slash, a dot.
 fn head(word: &str) -> &str
     ensures { result.now ≡ word_change maps.Head word.now }
 {
@@ -49,7 +50,7 @@ fn head(word: &str) -> &str
     }
 }
 
-/// What follows the last slash of a word; without a slash, the word.
+/// What the modifier `:T` makes of a word: what follows its last slash; without a slash, the word.
 fn tail(word: &str) -> &str
     ensures { result.now ≡ word_change maps.Tail word.now }
 {
@@ -59,7 +60,8 @@ fn tail(word: &str) -> &str
     }
 }
 
-/// Adds what is made of a word to words that are joined by single spaces.
+/// Adds what the modifier of a letter, or `old=new`, makes of a word to the words before it, which are joined
+/// by single spaces.
 pub(crate) fn add_changed(
     alloc: Global,
     made: &mut String,
@@ -76,7 +78,8 @@ pub(crate) fn add_changed(
     }
 }
 
-/// Adds a word, with the new text in place of the old one if it ends in that one.
+/// Adds what the modifier `old=new` makes of a word: the word, with the new text in place of the old one if
+/// it ends in that.
 fn add_with_suffix(made: &mut String, old: &str, new: &str, word: &str) -> Result<(), TextFault>
     requires { length (string_bytes made.old) ≤ TEXT_LIMIT }
     ensures ok { AddsWord result made.old made.new (with_suffix old.now new.now word.now) }
@@ -88,7 +91,7 @@ fn add_with_suffix(made: &mut String, old: &str, new: &str, word: &str) -> Resul
     }
 }
 
-/// Adds one word that two texts make.
+/// Adds the word that `old=new` makes of two texts: what the word has before its suffix, and the new suffix.
 fn add_two(made: &mut String, front: &str, new: &str) -> Result<(), TextFault>
     requires { length (string_bytes made.old) ≤ TEXT_LIMIT }
     ensures ok { AddsWord result made.old made.new (front.now ++ new.now) }
@@ -101,7 +104,7 @@ fn add_two(made: &mut String, front: &str, new: &str) -> Result<(), TextFault>
     add_text(made, new)
 }
 
-/// Adds what the modifier of a letter makes of a word.
+/// Adds what the modifier of a letter, as `:R` or `:L`, makes of a word to the words before it.
 fn add_mapped(alloc: Global, made: &mut String, map: WordMap, word: &str) -> Result<(), TextFault>
     requires { length (string_bytes made.old) ≤ TEXT_LIMIT }
     ensures ok { AddsWord result made.old made.new (word_change map word.now) }

@@ -1,4 +1,4 @@
-//! Names of files as a world of files knows them.
+//! Names of files as a world of files knows them, resolved and with their directories.
 ghost use Rattle.std.specs.Prelude.{◌≡◌, IfOk, [], if◌then◌else◌};
 ghost use Rattle.refusals.specs.Refused.{refused};
 ghost use Rattle.std.specs.List.{list_all};
@@ -36,6 +36,7 @@ pub enum NameFault {
 impl From<AllocError> for NameFault {
     ghost from_gives = { λ _ fault. fault ≡ Memory refused };
 
+    /// If an allocation is refused, a file name isn't read, and the fault is `Memory`.
     fn from(error: AllocError) -> NameFault {
         NameFault::Memory(OutOfMemory::from(error))
     }
@@ -61,8 +62,8 @@ impl Model for Name {
 }
 
 impl Name {
-    /// The file that an absolute name means. Empty and `.` parts are dropped, and `..` removes the
-    /// part before it.
+    /// The file name that an absolute name means, resolved. Empty and `.` parts are dropped, and `..` removes
+    /// the part before it.
     ///
     /// The faults are looked for in this order. It is `BadName` if a byte isn't printable ASCII or is a
     /// blank, or if the first byte isn't a slash. It is `Above` if a `..` has no part before it. It is
@@ -87,8 +88,8 @@ impl Name {
         Ok(Name { text })
     }
 
-    /// The file that a name in a makefile means. An absolute name is taken as `read` takes it. Any other
-    /// name is put after the directory, with a slash between.
+    /// The file name that a name in a makefile means, under a directory. An absolute name is taken as `read`
+    /// takes it. Any other name is put after the directory, with a slash between.
     ///
     /// Its faults are those of `read` for that text.
     pub fn under(alloc: Global, directory: &str, file: &str) -> Result<Name, NameFault>
@@ -105,7 +106,7 @@ impl Name {
         Name::read(alloc, text.as_str())
     }
 
-    /// The resolved name.
+    /// The resolved file name as a text, as in `/tree/a/b`.
     pub fn as_str(&self) -> &str
         ensures text { result.now ≡ self.now }
         ensures resolved { IsResolved self.now }
@@ -113,7 +114,7 @@ impl Name {
         self.text.as_str()
     }
 
-    /// The same name once more. It fails only if memory runs out.
+    /// A copy of a file name. It fails only if memory runs out.
     pub fn copy(&self, alloc: Global) -> Result<Name, AllocError>
         ensures { IfOk result (λ name. name ≡ self.now) }
     {
@@ -122,7 +123,7 @@ impl Name {
         })
     }
 
-    /// The directory that the file is in: what is before the last slash of its name.
+    /// The directory of a file name: what is before its last slash.
     pub fn directory(&self) -> &str
         ensures { result.now ≡ directory_of self.now }
     {
@@ -133,7 +134,7 @@ impl Name {
         }
     }
 
-    /// The resolved name as a text of its own.
+    /// The resolved file name as a text of its own.
     pub fn into_text(self) -> String
         ensures text { string_bytes result ≡ self }
         ensures resolved { IsResolved self }
@@ -143,22 +144,22 @@ impl Name {
     }
 }
 
-/// Whether a byte is printable ASCII and no blank.
+/// Whether a byte may be in a file name: it is printable ASCII and no blank.
 pub(crate) fn is_plain_byte(byte: u8) -> bool
     ensures { result ≡ is_plain byte }
 {
     33 <= byte && byte <= 126
 }
 
-/// Whether each byte is printable ASCII without blanks.
+/// Whether each byte of a text may be in a file name: it is printable ASCII and no blank.
 fn is_plain_text(text: &str) -> bool
     ensures { result ≡ list_all is_plain text.now }
 {
     text.bytes().all(|byte| is_plain_byte(byte))
 }
 
-/// The parts that are left when empty and `.` parts are dropped and each `..` removes the part before it;
-/// `None` if a `..` has no part before it.
+/// The parts that are left of a file name when empty and `.` parts are dropped and each `..` removes the part
+/// before it. It is `None` if a `..` has no part before it.
 fn kept_of<'a>(alloc: Global, parts: &[&'a str]) -> Result<Option<Vec<&'a str>>, AllocError>
     ensures { KeepsParts result parts.now }
 {
@@ -172,8 +173,8 @@ fn kept_of<'a>(alloc: Global, parts: &[&'a str]) -> Result<Option<Vec<&'a str>>,
     Ok(Some(kept))
 }
 
-/// Takes the next part after those kept so far. It gives false if the part is a `..` with no part before
-/// it, and otherwise true.
+/// Takes the next part of a file name after those kept so far. If the part is a `..` with no part before it,
+/// it gives false, and otherwise true.
 fn take_part<'a>(kept: &mut Vec<&'a str>, part: &'a str) -> Result<bool, AllocError>
     ensures { TakesPart result kept.old.items kept.new.items part.now }
 {
@@ -187,7 +188,7 @@ fn take_part<'a>(kept: &mut Vec<&'a str>, part: &'a str) -> Result<bool, AllocEr
     }
 }
 
-/// The parts one after another, each after a slash.
+/// The text of a resolved file name: its parts one after another, each after a slash.
 fn join(alloc: Global, parts: &[&str]) -> Result<String, AllocError>
     ensures { IfOk result (λ text. string_bytes text ≡ with_slashes (now_all parts.now)) }
 {

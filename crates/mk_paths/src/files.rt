@@ -1,4 +1,4 @@
-//! Asking whether files are there.
+//! The question whether a file is there, in a world of files, and why it may get no answer.
 ghost use Rattle.std.specs.Prelude.{◌≡◌, ◌↔◌, IfErr, OnErr};
 ghost use Rattle.refusals.specs.Refused.{refused};
 ghost use Rattle.mk_paths.specs.FilesView.{FilesView, Fails, AnswersPresence};
@@ -24,6 +24,7 @@ pub enum FilesFault {
 impl From<AllocError> for FilesFault {
     ghost from_gives = { λ _ fault. fault ≡ Memory refused };
 
+    /// If an allocation is refused, a question about files gets no answer, and the fault is `Memory`.
     fn from(error: AllocError) -> FilesFault {
         FilesFault::Memory(OutOfMemory::from(error))
     }
@@ -32,13 +33,15 @@ impl From<AllocError> for FilesFault {
 impl<T: Drop> From<AllocFailed<T>> for FilesFault {
     ghost from_gives = { λ _ fault. fault ≡ Memory refused };
 
+    /// If an allocation that gives a value back is refused, a question about files gets no answer, and the
+    /// fault is `Memory`.
     fn from(error: AllocFailed<T>) -> FilesFault {
         FilesFault::Memory(OutOfMemory::from(error))
     }
 }
 
 impl FilesFault {
-    /// The fault of files whose database refused a statement with this error.
+    /// Why a question about files got no answer, if their database refused a statement with this error.
     pub fn of_statement<D: Database>(error: &D::Error) -> FilesFault
         ensures { (result ≡ Memory refused) ↔ D.for_memory error.now }
     {
@@ -60,7 +63,7 @@ pub trait Names {
 
     ghost fails_with: { FilesFault → Type 0 };
 
-    /// Whether a file of this name is there.
+    /// Whether a file of this name is there, in a world of files.
     ///
     /// The answer is what the map says, and it is added to the log if there is one. A fault leaves
     /// the map and the log as they are. It adds one to the count of failures, which goes no higher
@@ -77,6 +80,7 @@ impl<N: Names> Names for &mut N {
 
     ghost fails_with = { N.fails_with };
 
+    /// Whether a file of this name is there, in a world of files that is lent.
     fn has(&mut self, name: &Name) -> Result<bool, FilesFault> {
         (**self).has(name)
     }

@@ -1,4 +1,4 @@
-//! Where a directory's makefile is.
+//! The place of a port's directory: its makefile in the first tree of the search path that has one.
 ghost use Rattle.mk_paths.specs.Place.{FindsPlace, SeeksPlace};
 ghost use Rattle.mk_paths.specs.Place.{StopsSeeking, GivesCandidate};
 
@@ -37,7 +37,7 @@ pub fn find<N: Names>(
     Ok(None)
 }
 
-/// The name of a directory's makefile in a tree; `None` if the text is no file name.
+/// The name of a directory's makefile in one tree of the search path; `None` if the text is no file name.
 fn candidate(alloc: Global, tree: &str, directory: &str) -> Result<Option<Name>, AllocError>
     ensures { GivesCandidate result tree.now directory.now }
 {

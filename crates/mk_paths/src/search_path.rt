@@ -1,4 +1,4 @@
-//! The ports trees that are searched for a port's directory.
+//! The search path: the ports trees that are searched for a port's directory.
 ghost use Rattle.std.specs.Prelude.{◌≡◌, IfOk, IsErrOf, map};
 ghost use Rattle.refusals.specs.Refused.{refused};
 ghost use Rattle.std.specs.List.{list_all};
@@ -32,6 +32,7 @@ pub enum PathFault {
 impl From<AllocError> for PathFault {
     ghost from_gives = { λ _ fault. fault ≡ Memory refused };
 
+    /// If an allocation is refused, a search path isn't read, and the fault is `Memory`.
     fn from(error: AllocError) -> PathFault {
         PathFault::Memory(OutOfMemory::from(error))
     }
@@ -57,9 +58,9 @@ impl Model for SearchPath {
 }
 
 impl SearchPath {
-    /// The trees of a text, with colons between them. There are one to eight, each a slash and one part.
-    /// The part is printable ASCII without blanks, slashes or colons, and isn't empty, `.` or `..`. A
-    /// tree may be named again.
+    /// The search path that a text gives: trees with colons between them. There are one to eight, each a
+    /// slash and one part. The part is printable ASCII without blanks, slashes or colons, and isn't empty,
+    /// `.` or `..`. A tree may be named again.
     ///
     /// Any other text is `BadPath`. It is `Memory` if memory runs out.
     pub fn read(alloc: Global, text: &str) -> Result<SearchPath, PathFault>
@@ -75,7 +76,7 @@ impl SearchPath {
         })
     }
 
-    /// The path `/ports:/mystuff`, with which a tenant begins. It fails only if memory runs out.
+    /// The search path `/ports:/mystuff`, with which a tenant begins. It fails only if memory runs out.
     pub fn standard(alloc: Global) -> Result<SearchPath, AllocError>
         ensures { IfOk result (λ path. path ≡ standard_trees) }
     {
@@ -84,7 +85,7 @@ impl SearchPath {
         })
     }
 
-    /// The same path once more. It fails only if memory runs out.
+    /// A copy of a search path. It fails only if memory runs out.
     pub fn copy(&self, alloc: Global) -> Result<SearchPath, AllocError>
         ensures { IfOk result (λ path. path ≡ self.now) }
     {
@@ -93,7 +94,7 @@ impl SearchPath {
         })
     }
 
-    /// The trees, the first one searched first.
+    /// The trees of a search path, the first one searched first.
     pub fn trees(&self) -> &[String]
         ensures trees { map string_bytes result.now ≡ self.now }
         ensures is_path { IsSearchPath self.now }
@@ -111,21 +112,21 @@ pub struct Settings {
     pub profile: Profile,
 }
 
-/// Whether the texts are one to eight trees.
+/// Whether these texts are the trees of a search path: one to eight.
 fn is_path(texts: &[&str]) -> bool
     ensures { result ≡ is_search_path (now_all texts.now) }
 {
     !texts.is_empty() && texts.len() <= MOST_TREES && are_trees(texts)
 }
 
-/// Whether each text is a tree.
+/// Whether each of these texts is a tree of a search path.
 fn are_trees(texts: &[&str]) -> bool
     ensures { result ≡ list_all (λ text. is_tree text.now) texts.now }
 {
     texts.iter().all(|text| is_tree_text(text))
 }
 
-/// Whether a text is a slash and one part.
+/// Whether a text is a tree of a search path: a slash and one part.
 fn is_tree_text(text: &str) -> bool
     ensures { result ≡ is_tree text.now }
 {
@@ -135,7 +136,7 @@ fn is_tree_text(text: &str) -> bool
     }
 }
 
-/// Whether a text is one part of a tree's name.
+/// Whether a text is the part of a search path's tree after its slash.
 fn is_part_text(part: &str) -> bool
     ensures { result ≡ is_part part.now }
 {
@@ -145,14 +146,14 @@ fn is_part_text(part: &str) -> bool
     }
 }
 
-/// Whether each byte may be in the part of a tree's name.
+/// Whether each byte of a text may be in the name of a search path's tree.
 fn has_part_bytes(text: &str) -> bool
     ensures { result ≡ list_all may_be_in_part text.now }
 {
     text.bytes().all(|byte| is_part_byte(byte))
 }
 
-/// Whether a byte may be in the part of a tree's name.
+/// Whether a byte may be in the name of a search path's tree: no blank, slash or colon.
 fn is_part_byte(byte: u8) -> bool
     ensures { result ≡ may_be_in_part byte }
 {

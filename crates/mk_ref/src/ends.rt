@@ -1,4 +1,4 @@
-//! Where units of a text end: references, pairs and single bytes.
+//! Where the units of a text end: references, `$$` pairs and single bytes.
 ghost use Rattle.std.specs.Prelude.{◌≡◌, ◌+◌, ◌<◌, ◌≤◌, length, drop, IfOk};
 ghost use Rattle.mk_ref.specs.Ends.{EndsAt, UnitEndsAt, EndsInside};
 
@@ -14,8 +14,8 @@ pub(crate) struct Inside {
     pub(crate) close: usize,
 }
 
-/// The index after the mark that closes what begins at `start`. Inner references are passed over. It is
-/// `None` if nothing closes it.
+/// The index after the mark that closes the reference whose inside begins at `start`. Inner references are
+/// passed over. It is `None` if nothing closes it.
 pub(crate) fn after_mark(
     alloc: Global,
     bytes: &[u8],
@@ -51,8 +51,8 @@ pub(crate) fn after_mark(
     Ok(None)
 }
 
-/// The index after the unit that begins at `at`: after a reference, a pair or a single byte. It is
-/// `None` if a reference begins there that doesn't end.
+/// The index after the unit of a text that begins at `at`: after a reference, a `$$` pair or a single byte.
+/// It is `None` if a reference begins there that doesn't end.
 fn after_unit(alloc: Global, bytes: &[u8], at: usize) -> Result<Option<usize>, AllocError>
     requires { at < length bytes.now }
     ensures { IfOk result (UnitEndsAt bytes.now at) }
@@ -65,8 +65,8 @@ fn after_unit(alloc: Global, bytes: &[u8], at: usize) -> Result<Option<usize>, A
     }
 }
 
-/// The places of what is inside a reference. Its inside begins at `start`, and `closing` closes its
-/// marks. It is `None` if the reference doesn't end.
+/// The places of the first colon and of the closing mark of a reference. Its inside begins at `start`, and
+/// `closing` closes it. It is `None` if the reference doesn't end.
 pub(crate) fn inside_from(
     alloc: Global,
     bytes: &[u8],

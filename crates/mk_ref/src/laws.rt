@@ -1,24 +1,27 @@
-//! What holds of every text. Each function does nothing: its clause is the law.
+//! What holds of every text that is cut into literals, `$$` pairs and references. Each function does nothing:
+//! its clause is the law.
 ghost use Rattle.mk_ref.specs.Laws.{UnitsAreText, ReferencesArePutTogether, CutGoesOn, ReadGoesOn, PartsAreWhole};
 ghost use Rattle.mk_ref.specs.Laws.{InsidesAreCutAlone, PiecesAreUnits, DollarsAlonePartTexts, OutsideKeepsPlaces};
 ghost use Rattle.mk_ref.specs.Laws.{OnlyTheUnclosedIsLeft, ReadsToTheFirstMark};
 
-/// The units of a text and what is left of it, put together, are the text.
+/// The units of a text (references, `$$` pairs and single bytes) and what is left of it, put together, are
+/// the text.
 pub fn units_are_text()
     ensures { UnitsAreText }
 {}
 
-/// Each reference is its name and its modifiers, put together with its marks and its colon.
+/// Each reference of a text is its name and its modifiers, put together with its marks and its colon.
 pub fn references_are_put_together()
     ensures { ReferencesArePutTogether }
 {}
 
-/// A text is cut by cutting off its first unit, and then cutting what follows that.
+/// A text is cut into units by cutting off its first unit, and then cutting what follows that.
 pub fn cut_goes_on()
     ensures { CutGoesOn }
 {}
 
-/// The units up to a closing mark are read one after another, until the mark comes first.
+/// The units inside a reference, up to its closing mark, are read one after another, until the mark comes
+/// first.
 pub fn read_goes_on()
     ensures { ReadGoesOn }
 {}
@@ -28,7 +31,7 @@ pub fn reads_to_the_first_mark()
     ensures { ReadsToTheFirstMark }
 {}
 
-/// A text is cut up to its end, or up to the first reference that no mark closes.
+/// A text is cut into units up to its end, or up to the first reference that no mark closes.
 pub fn only_the_unclosed_is_left()
     ensures { OnlyTheUnclosedIsLeft }
 {}
@@ -44,18 +47,19 @@ pub fn insides_are_cut_alone()
     ensures { InsidesAreCutAlone }
 {}
 
-/// The pieces of units are made of exactly these units: nothing is lost when bytes are put together.
+/// The pieces of a text (literals, `$$` pairs and references) are made of exactly its units: nothing is lost
+/// when bytes are put together.
 pub fn pieces_are_units()
     ensures { PiecesAreUnits }
 {}
 
-/// A text without a dollar is its bytes: it has no reference and no pair, and nothing is left of it.
+/// A text without a dollar is its bytes: it has no reference and no `$$` pair, and nothing is left of it.
 pub fn dollars_alone_part_texts()
     ensures { DollarsAlonePartTexts }
 {}
 
-/// What `outside` gives is as long as the text. Each of its bytes that isn't a dollar is the text's
-/// byte at the same place.
+/// What `outside` gives of a text, with dollars over its references, is as long as the text. Each of its
+/// bytes that isn't a dollar is the text's byte at the same place.
 pub fn outside_keeps_places()
     ensures { OutsideKeepsPlaces }
 {}

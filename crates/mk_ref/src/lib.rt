@@ -1,4 +1,4 @@
-//! References in texts of the make language, as places in the text.
+//! A text of the make language cut into literals, `$$` pairs and references, as places in the text.
 #![tactic(auto)]
 
 mod ends;

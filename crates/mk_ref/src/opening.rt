@@ -1,4 +1,4 @@
-//! What begins at a `$`.
+//! What a `$` of a text opens: a `$$` pair or a reference.
 ghost use Rattle.std.specs.Prelude.{◌≡◌, ◌+◌, ◌<◌, ◌≤◌, length, drop, OnSome};
 ghost use Rattle.mk_ref.specs.Units.{opening_of};
 
@@ -13,8 +13,8 @@ pub enum Opening {
     Marked(u8),
 }
 
-/// What the `$` at this index makes with the byte after it. It is `None` if another byte is at this
-/// index, and if the `$` is itself.
+/// What the `$` at this index of a text makes with the byte after it: a `$$` pair, or a reference that begins
+/// there. It is `None` if another byte is at this index, and if the `$` is itself.
 pub fn opening_at(bytes: &[u8], at: usize) -> Option<Opening>
     requires { at < length bytes.now }
     ensures opening { result ≡ opening_of (drop at bytes.now) }

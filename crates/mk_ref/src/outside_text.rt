@@ -1,4 +1,4 @@
-//! What of a text is outside references.
+//! What of a text is outside its references and `$$` pairs.
 ghost use Rattle.std.specs.Prelude.{◌≡◌, ◌++◌, map, All, IfOk, OnOk};
 ghost use Rattle.std.specs.List.{flat_map};
 ghost use Rattle.mk_ref.specs.Places.{piece_in_text, IsPieceIn, IsUnclosedAt};
@@ -7,10 +7,10 @@ ghost use Rattle.mk_ref.specs.Outside.{outside, dollars, covered_piece};
 use crate::pieces_of_text::{Piece, PiecesFault, pieces};
 use std::alloc::{AllocError, Global};
 
-/// The bytes of `text`, with a dollar in place of each byte of references and pairs. A reference that
-/// doesn't end reaches to the end of the text, and dollars replace it too. Every other byte is the
-/// text's own, at its own place, so what is found in these bytes can be cut out of the text there. The
-/// time is linear in the length of `text`.
+/// The bytes of `text` that are outside references, with a dollar in place of each byte of references and
+/// `$$` pairs. A reference that doesn't end reaches to the end of the text, and dollars replace it too. Every
+/// other byte is the text's own, at its own place, so what is found in these bytes can be cut out of the text
+/// there. The time is linear in the length of `text`.
 ///
 /// # Errors
 ///
@@ -25,7 +25,8 @@ pub fn outside(alloc: Global, text: &str) -> Result<Vec<u8>, AllocError>
     }
 }
 
-/// The same for a text in which the reference that begins at `at` is the first that doesn't end.
+/// The bytes of a text that are outside references, if the reference that begins at `at` is the first that
+/// doesn't end. Dollars replace all from there on.
 fn outside_up_to(alloc: Global, text: &str, at: usize) -> Result<Vec<u8>, AllocError>
     requires { IsUnclosedAt text.now at }
     ensures { IfOk result (λ bytes. bytes.items ≡ outside text.now) }
@@ -43,7 +44,7 @@ fn outside_up_to(alloc: Global, text: &str, at: usize) -> Result<Vec<u8>, AllocE
     }
 }
 
-/// The bytes of pieces of a text, with dollars in place of references and pairs.
+/// The bytes of pieces of a text, with dollars over references and `$$` pairs.
 fn covered(alloc: Global, text: &str, found: &[Piece]) -> Result<Vec<u8>, AllocError>
     requires { All (IsPieceIn text.now) found.now }
     ensures { IfOk result (λ bytes. bytes.items
@@ -56,7 +57,8 @@ fn covered(alloc: Global, text: &str, found: &[Piece]) -> Result<Vec<u8>, AllocE
     Ok(bytes)
 }
 
-/// Adds the bytes of a piece of a text, or dollars in their place.
+/// Adds the bytes of a piece of a text that is outside references, or dollars in place of a reference or a
+/// `$$` pair.
 fn push_piece(bytes: &mut Vec<u8>, piece: &Piece, text: &str) -> Result<(), AllocError>
     requires { IsPieceIn text.now piece.now }
     ensures { OnOk result (bytes.new.items ≡ bytes.old.items
@@ -69,7 +71,7 @@ fn push_piece(bytes: &mut Vec<u8>, piece: &Piece, text: &str) -> Result<(), Allo
     }
 }
 
-/// Adds a dollar for each byte of a text.
+/// Adds a dollar in place of each byte of a reference.
 fn push_dollars(bytes: &mut Vec<u8>, text: &str) -> Result<(), AllocError>
     ensures { OnOk result (bytes.new.items ≡ bytes.old.items ++ dollars text.now) }
 {

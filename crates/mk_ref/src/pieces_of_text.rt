@@ -1,4 +1,4 @@
-//! The pieces of a text: literals, pairs and references.
+//! The pieces of a text: literals, `$$` pairs and references, as places in it.
 ghost use Rattle.std.specs.Prelude.{◌≡◌, ◌<◌, ◌≤◌, ◌+◌, ◌^◌, [], ◌∷◌, ◌++◌, length, drop, map, All, Some, IfOk, IfErr, OnOk};
 ghost use Rattle.refusals.specs.Refused.{refused};
 ghost use Rattle.std.specs.Option.{ForSome};
@@ -56,13 +56,14 @@ pub enum PiecesFault {
 impl From<AllocError> for PiecesFault {
     ghost from_gives = { λ _ fault. fault ≡ faults.Memory refused };
 
+    /// If an allocation is refused, a text isn't cut into pieces, and the fault is `Memory`.
     fn from(error: AllocError) -> PiecesFault {
         PiecesFault::Memory(OutOfMemory::from(error))
     }
 }
 
 impl Piece {
-    /// The index after its last byte.
+    /// The index after the last byte of a piece of a text: of a literal, a `$$` pair or a reference.
     fn end(&self) -> usize
         ensures { result ≡ (span_of_piece self.now).end }
     {
@@ -116,7 +117,7 @@ pub fn pieces(alloc: Global, text: &str) -> Result<Vec<Piece>, PiecesFault>
     Ok(found)
 }
 
-/// Adds the literal at this place, unless it is empty.
+/// Adds the literal at this place of the text to its pieces, unless the literal is empty.
 fn push_literal(found: &mut Vec<Piece>, start: usize, end: usize) -> Result<(), AllocError>
     ensures { OnOk result (found.new.items ≡ found.old.items ++ literal_at start end) }
 {
@@ -126,7 +127,7 @@ fn push_literal(found: &mut Vec<Piece>, start: usize, end: usize) -> Result<(), 
     Ok(())
 }
 
-/// Adds a piece.
+/// Adds a piece of a text to those found so far.
 fn push(found: &mut Vec<Piece>, piece: Piece) -> Result<(), AllocError>
     ensures { OnOk result (found.new.items ≡ found.old.items ++ piece ∷ []) }
 {
@@ -134,7 +135,8 @@ fn push(found: &mut Vec<Piece>, piece: Piece) -> Result<(), AllocError>
     Ok(())
 }
 
-/// The piece that `opening` begins at `at`; `None` if it is a reference that doesn't end.
+/// The piece of a text that `opening` begins at `at`: a `$$` pair or a reference. It is `None` if it is a
+/// reference that doesn't end.
 fn piece_at(
     alloc: Global,
     text: &str,
@@ -168,7 +170,8 @@ fn piece_at(
     }
 }
 
-/// The reference with marks that begins at `at` and has this inside.
+/// The places of the reference that begins at `at` with a mark and has this inside: of all of it, its name
+/// and its modifiers.
 fn reference_at(at: usize, inside: Inside) -> Reference
     requires start { at + 2 < 2 ^ 64 }
     requires close { inside.close + 1 < 2 ^ 64 }

@@ -1,4 +1,5 @@
-//! What is still to be done: frames, and what the heads of blocks leave to be done.
+//! The frames of a machine: what is still to be done of an evaluation, and what heads of blocks leave to be
+//! done.
 ghost use Rattle.std.specs.Prelude.{◌≡◌, ◌∷◌, ◌<◌, ◌≤◌, ◌+◌, ◌&&◌, length, IfOk, IfSome, [], None};
 ghost use Rattle.mk_step.specs.Costs.{Costs};
 ghost use Rattle.mk_step.specs.Views.{site_of, frame_at, frame_of, inner_frames, nodes_in};
@@ -85,8 +86,8 @@ pub(crate) struct Inner {
 }
 
 impl Inner {
-    /// What a line leaves that opened a file with these lines, or none: they, and the modules, if the line asks
-    /// for them.
+    /// The frames that a line leaves to be done before what follows: the lines of the file that it opened, if
+    /// any, and its modules, if it asks for them.
     pub(crate) fn of_line(
         site: &Rc<Site>,
         line: u64,
@@ -110,7 +111,7 @@ impl Inner {
         })
     }
 
-    /// Puts what is to be done on top of other frames.
+    /// Puts the frames that a line or a block leaves to be done on top of the machine's other frames.
     pub(crate) fn push_onto(self, frames: &mut Vec<Frame>) -> Result<(), AllocError>
         ensures { PutsOn result (inner_frames self) frames.old.items frames.new.items }
     {
@@ -124,7 +125,7 @@ impl Inner {
         }
     }
 
-    /// What the head of a block leaves.
+    /// The frame that the head of a block leaves to be done before what follows the block.
     pub(crate) fn of_block(site: Rc<Site>, to_do: ToDo) -> Inner
         ensures { inner_frames result ≡ frame_at (site_of site.value) to_do ∷ [] }
     {
@@ -136,8 +137,8 @@ impl Inner {
 }
 
 impl Frame {
-    /// The frame without what it has to do first that costs nothing. It is `None` if nothing else is to be
-    /// done.
+    /// The frame of a machine, past all that costs nothing at its beginning, as blank lines. It is `None` if
+    /// nothing else is to be done in it.
     fn settled(self) -> Option<Frame>
         ensures alike { Settles (frame_of self) result }
         ensures lighter { IsNoHeavier (frame_of self) result }
@@ -157,7 +158,7 @@ impl Frame {
     }
 }
 
-/// Puts a frame, if there is one, on top of others.
+/// Puts a frame, if there is one, on top of a machine's other frames.
 fn push_if_there(frames: &mut Vec<Frame>, frame: Option<Frame>) -> Result<(), AllocError>
     ensures { PutsFirst result frame frames.old.items frames.new.items }
 {
@@ -170,8 +171,8 @@ fn push_if_there(frames: &mut Vec<Frame>, frame: Option<Frame>) -> Result<(), Al
     }
 }
 
-/// The lines of a block that are left, without the blank lines that they begin with. It is `None` if there
-/// are no others.
+/// The frame of a block's lines that are left, without the blank lines that they begin with. It is `None` if
+/// there are no others.
 fn lines_from(site: Rc<Site>, left: LinesLeft) -> Option<Frame>
     ensures alike { SettlesAt site (ToDo.Lines left) result }
     ensures lighter { WeighsNothing result }
@@ -186,8 +187,8 @@ fn lines_from(site: Rc<Site>, left: LinesLeft) -> Option<Frame>
     None
 }
 
-/// The later branches of a choice that are left, or the lines of the last one if no other is left. It is
-/// `None` if there is none.
+/// The frame of the later branches of a choice that are left, or of the lines of the last one if no other is
+/// left. It is `None` if there is none.
 fn later_from(site: Rc<Site>, left: BranchesLeft) -> Option<Frame>
     ensures alike { SettlesAt site (ToDo.Later left) result }
     ensures lighter { WeighsNothing result }
@@ -212,7 +213,7 @@ fn later_from(site: Rc<Site>, left: BranchesLeft) -> Option<Frame>
     }
 }
 
-/// The iterations of a loop that are left. It is `None` if there are none.
+/// The frame of a loop's iterations that are left. It is `None` if there are none.
 fn iterations_from(site: Rc<Site>, left: IterationsLeft) -> Option<Frame>
     ensures alike { SettlesAt site (ToDo.Iterations left) result }
     ensures lighter { WeighsNothing result }
@@ -225,7 +226,7 @@ fn iterations_from(site: Rc<Site>, left: IterationsLeft) -> Option<Frame>
     None
 }
 
-/// The modules of the words that are left. It is `None` if none is.
+/// The frame of the modules whose words are left. It is `None` if none is.
 fn searches_from(site: Rc<Site>, search: Search) -> Option<Frame>
     ensures alike { SettlesAt site (ToDo.Searches search) result }
     ensures lighter { IsNoHeavier (frame_at (site_of site.value) (ToDo.Searches search)) result }
@@ -238,9 +239,9 @@ fn searches_from(site: Rc<Site>, search: Search) -> Option<Frame>
     None
 }
 
-/// Takes the innermost frame in which something is to be done that costs a unit, without what it has to do
-/// before that. The frames inside it, in which nothing else is to be done, are dropped. It is `None` if
-/// there is no such frame.
+/// Takes the innermost frame of a machine with something to do that costs a unit, past all that comes before
+/// it at no cost. Frames inside it with nothing else to do are dropped. It is `None` if there is no such
+/// frame.
 pub(crate) fn next_frame(frames: &mut Vec<Frame>) -> Option<Frame>
     ensures alike { SettlesAll frames.old.items frames.new.items result }
     ensures lighter { AreNoHeavier frames.old.items frames.new.items result }
@@ -255,7 +256,7 @@ pub(crate) fn next_frame(frames: &mut Vec<Frame>) -> Option<Frame>
     None
 }
 
-/// What is to be done of a choice once its first condition is judged.
+/// What is left to be done of a choice once its first condition is judged: its lines, or its later branches.
 pub(crate) fn chosen(
     held: bool,
     body: &Block,
@@ -277,7 +278,7 @@ pub(crate) fn chosen(
     }))
 }
 
-/// The same last branch once more.
+/// The last branch of a choice once more, as a frame that is left shares it.
 fn shared(otherwise: &Option<Block>) -> Result<Option<Block>, AllocError>
     ensures { IfOk result (λ shared. nodes_in shared ≡ nodes_in otherwise.now) }
 {
@@ -287,7 +288,7 @@ fn shared(otherwise: &Option<Block>) -> Result<Option<Block>, AllocError>
     }
 }
 
-/// What is to be done of a loop once its header is read.
+/// What is left to be done of a loop once its header is read: all its iterations.
 pub(crate) fn begun(
     head: &Logical,
     body: &Block,
@@ -303,7 +304,7 @@ pub(crate) fn begun(
     }))
 }
 
-/// What is to be done of a choice once the condition is judged of the next branch, which has this body.
+/// What is left to be done of a choice once the condition of the next branch, which has this body, is judged.
 pub(crate) fn after_condition(held: bool, body: Block, left: BranchesLeft) -> ToDo
     requires { left.next < length left.branches.value.items }
     ensures { Chooses held body left.branches (left.next + 1) left.otherwise result }

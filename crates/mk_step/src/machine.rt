@@ -1,4 +1,4 @@
-//! A machine that evaluates a makefile, turn by turn.
+//! A machine that evaluates a makefile turn by turn, and may stop between any two lines.
 ghost use Rattle.std.specs.Prelude.{◌≡◌};
 ghost use Rattle.mk_base.specs.Meter.{IsLater};
 ghost use Rattle.mk_step.specs.Turn.{MeansIfDone, StartsAmong, TellsEach, LeavesEach, Spends};
@@ -39,9 +39,9 @@ pub enum Turned {
 }
 
 impl Machine {
-    /// Begins to evaluate the makefile of this name with these flavors, or with none given. The makefile
-    /// is looked at, which isn't counted among the questions, and none of its lines is done. If it isn't
-    /// there or can't be read, the evaluation is done, with that fault.
+    /// Starts a machine that evaluates the makefile of this name with these flavors, or with none given. The
+    /// makefile is looked at, which isn't counted among the questions, and none of its lines is done. If it
+    /// isn't there or can't be read, the evaluation is done, with that fault.
     ///
     /// # Errors
     ///
@@ -67,8 +67,9 @@ impl Machine {
         }
     }
 
-    /// Goes on until it has spent this many units or more, or the evaluation is at its end. So it spends
-    /// at most these units and those of the last thing that it does. With a fault the machine is gone.
+    /// The machine goes on with its evaluation until it has spent this many units or more, or is at the end.
+    /// So it spends at most these units and those of the last thing that it does. With a fault the machine is
+    /// gone.
     ///
     /// # Errors
     ///
@@ -95,8 +96,8 @@ impl Machine {
         }
     }
 
-    /// Does one thing after another until it has spent this many units or more. The answer is whether
-    /// nothing is to be done any more.
+    /// The machine does one thing of its evaluation after another until it has spent this many units or more.
+    /// The answer is whether nothing is to be done any more.
     fn run<F: Files, P: Parses>(
         &mut self,
         alloc: Global,
@@ -119,7 +120,8 @@ impl Machine {
         Ok(false)
     }
 
-    /// What the evaluation gives at its end.
+    /// What the evaluation of a machine gives at its end: its variables, what the makefile describes, and the
+    /// cost.
     fn finish(self) -> Evaluated
         ensures { result ≡ outcome_of self }
     {
@@ -136,7 +138,8 @@ impl Machine {
         }
     }
 
-    /// The units that were spent so far. They aren't more than the whole evaluation costs.
+    /// The units that a machine has spent so far on its evaluation. They aren't more than the whole
+    /// evaluation costs.
     pub fn spent(&self) -> u64
         ensures units { result ≡ self.now.budget.spent }
         ensures within { IsWithinEach self.now result }
@@ -182,7 +185,8 @@ fn begin<F: Files, P: Parses>(
     })
 }
 
-/// The end of an evaluation that stopped, after this many units.
+/// The end of a machine's evaluation that stopped, after this many units: a fault, or the failure of files or
+/// memory.
 fn ended(stop: Stop<Fault>, cost: u64) -> Result<Turned, FilesFault>
     ensures { result ≡ stopped stop cost }
 {

@@ -1,4 +1,4 @@
-//! The things that a machine does, one after another.
+//! The steps of a machine that evaluates a makefile: the things that it does, one after another.
 ghost use Rattle.std.specs.Prelude.{◌≡◌, ◌<◌, length};
 ghost use Rattle.mk_base.specs.Meter.{IsLater};
 ghost use Rattle.mk_files.specs.Work.{Asks};
@@ -25,7 +25,8 @@ use std::alloc::Global;
 use std::rc::Rc;
 
 impl Machine {
-    /// Does the next thing that this frame has to do, which costs a unit or more, or is about modules.
+    /// A step of a machine: the next thing that this frame has to do, which costs a unit or more, or is about
+    /// modules.
     pub(crate) fn step<F: Files, P: Parses>(
         &mut self,
         alloc: Global,
@@ -50,7 +51,7 @@ impl Machine {
         }
     }
 
-    /// Does the next line, or begins the next block, and leaves what follows it.
+    /// A step of a machine: does the next line, or begins the next block, and leaves what follows it.
     fn step_lines<F: Files, P: Parses>(
         &mut self,
         alloc: Global,
@@ -77,7 +78,8 @@ impl Machine {
         Ok(())
     }
 
-    /// Does a line, or begins a block. What it gives is to be done before what follows.
+    /// A machine does a line, or begins a block. The frames that this gives are to be done before what
+    /// follows.
     fn do_node<F: Files, P: Parses>(
         &mut self,
         alloc: Global,
@@ -115,8 +117,8 @@ impl Machine {
         }
     }
 
-    /// Does a line that frames no block. If it opens a file, the file's lines are to be done before what
-    /// follows, and after them the modules that the line asks for, if it does.
+    /// A machine does a line that frames no block. If it opens a file, the file's lines are to be done before
+    /// what follows, and after them the modules that the line asks for, if it does.
     fn do_line<F: Files, P: Parses>(
         &mut self,
         alloc: Global,
@@ -145,7 +147,7 @@ impl Machine {
         }
     }
 
-    /// Judges the condition of the next branch.
+    /// A step of a machine: judges the condition of the next branch of a choice.
     fn step_later<F: Files>(
         &mut self,
         alloc: Global,
@@ -170,7 +172,7 @@ impl Machine {
         Ok(())
     }
 
-    /// Begins the next iteration, and leaves those after it.
+    /// A step of a machine: begins the next iteration of a loop, and leaves those after it.
     fn step_iterations(
         &mut self,
         alloc: Global,
@@ -204,7 +206,7 @@ impl Machine {
         Ok(())
     }
 
-    /// Expands MODULES at this line.
+    /// A step of a machine: expands MODULES at this line, and leaves the search for each of its words.
     fn step_modules(
         &mut self,
         alloc: Global,
@@ -227,7 +229,8 @@ impl Machine {
         Ok(())
     }
 
-    /// Looks for the next module, and leaves its lines and the words after it.
+    /// A step of a machine: looks for the file of the next module, and leaves its lines and the words after
+    /// it.
     fn step_searches<F: Files, P: Parses>(
         &mut self,
         alloc: Global,
@@ -262,7 +265,7 @@ impl Machine {
     }
 }
 
-/// The lines of a file that was read.
+/// The frame of the lines of a file that a machine has read, parsed into its tree.
 pub(crate) fn lines_in<P: Parses>(
     alloc: Global,
     included: Included,

@@ -1,4 +1,4 @@
-//! The search for the modules that a line asks for.
+//! The search for the files of the modules that a line asks for, by the words of MODULES.
 ghost use Rattle.std.specs.Prelude.{◌≡◌, IfOk};
 ghost use Rattle.mk_base.specs.Meter.{IsLater};
 ghost use Rattle.mk_files.specs.Work.{Asks};
@@ -22,7 +22,8 @@ pub(crate) struct Search {
 }
 
 impl Search {
-    /// The file of the next module that is there. The words up to it are done, or all words if there is none.
+    /// Searches for the next module that is there, and gives its file. The words of MODULES up to it are
+    /// done, or all words if there is none.
     ///
     /// The errors are those of `mk_eval::open_module` for each word.
     pub(crate) fn next_module<F: Files>(

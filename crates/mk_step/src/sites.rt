@@ -1,4 +1,4 @@
-//! Where lines are.
+//! The sites of lines in an evaluation: their file, and the loops around them.
 ghost use Rattle.std.specs.Prelude.{◌≡◌, ◌<◌, length};
 ghost use Rattle.mk_loop.specs.Scopes.{iterations_in};
 ghost use Rattle.mk_eval.specs.Views.{loops_of};
@@ -23,7 +23,7 @@ pub(crate) struct Site {
 }
 
 impl Site {
-    /// In a file, outside any loop.
+    /// The site of the lines of a file, outside any loop.
     pub(crate) fn outside(alloc: Global, file: Name, levels: u32) -> Result<Rc<Site>, AllocError>
         ensures { IsOutside file levels result }
     {
@@ -35,7 +35,7 @@ impl Site {
         Ok(Rc::new(alloc, site)?)
     }
 
-    /// In the iteration of this index of one more loop.
+    /// The site of the lines of a loop in this site, at the loop's iteration of this index.
     pub(crate) fn inside(
         &self,
         alloc: Global,
@@ -53,7 +53,7 @@ impl Site {
         Ok(Rc::new(alloc, site)?)
     }
 
-    /// The same in the evaluation of this makefile.
+    /// The site of lines as `mk_eval` takes it: where they are executed in the evaluation of this makefile.
     pub(crate) fn here<'a>(&'a self, makefile: &'a Name) -> ExecutedFile<'a>
         ensures place { IsHere makefile.now self.now result }
         ensures loops { loops_of result.loops.now ≡ (site_of self.now).loops }

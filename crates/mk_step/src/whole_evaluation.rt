@@ -1,4 +1,4 @@
-//! Evaluations from beginning to end.
+//! Whole evaluations of makefiles, from beginning to end.
 ghost use Rattle.std.specs.Prelude.{◌+◌};
 ghost use Rattle.mk_base.specs.declared.budget.TheConstants.{UNITS};
 ghost use Rattle.mk_eval.specs.Outcome.{LeavesAsked, CostsAtMost};
@@ -59,8 +59,8 @@ pub fn evaluate<F: Files>(
     evaluate_with(alloc, &mut parses, files, settings, name, flavors)
 }
 
-/// The same as `evaluate`, with trees that `parses` makes, or shares. Of `parses` itself becomes only what
-/// may become of it by making trees.
+/// The whole evaluation of a makefile as by `evaluate`, with trees that `parses` makes, or shares. Of
+/// `parses` itself becomes only what may become of it by making trees.
 ///
 /// # Errors
 ///
@@ -88,7 +88,7 @@ pub fn evaluate_with<F: Files, P: Parses>(
     }
 }
 
-/// An evaluation, begun and turned once, with more units than it may spend.
+/// The whole evaluation of a makefile by a machine, begun and turned once, with more units than it may spend.
 fn in_one_turn<F: Files, P: Parses>(
     alloc: Global,
     parses: &mut P,

@@ -1,4 +1,4 @@
-//! The limit of a text.
+//! The limit of a text of the make language: how many bytes it may have.
 ghost use Rattle.std.specs.Prelude.{◌≡◌, ◌≤◌, ◌++◌, string_bytes, length, IfOk, IfErr, OnErr};
 ghost use Rattle.refusals.specs.Refused.{refused};
 ghost use Rattle.mk_text.specs.TextLimit.{IsTooLong};
@@ -26,13 +26,14 @@ pub enum TextFault {
 impl From<AllocError> for TextFault {
     ghost from_gives = { λ _ fault. fault ≡ Memory refused };
 
+    /// If an allocation is refused, a text of the make language isn't made, and the fault is `Memory`.
     fn from(error: AllocError) -> TextFault {
         TextFault::Memory(OutOfMemory::from(error))
     }
 }
 
-/// Adds `text` at the end of `made`, unless the whole would be too long: so no longer text is ever
-/// made. If it fails, `made` stays as it was.
+/// Adds `text` to the end of `made` within the limit of a text. If the whole would be too long, it fails, so
+/// no longer text is ever made. If it fails, `made` stays as it was.
 ///
 /// # Errors
 ///
@@ -50,7 +51,8 @@ pub fn add_text(made: &mut String, text: &str) -> Result<(), TextFault>
     Ok(())
 }
 
-/// The limit of a text is 65,536 bytes. The function does nothing: its clause is the law.
+/// The limit of a text of the make language is 65,536 bytes. The function does nothing: its clause is the
+/// law.
 pub fn text_limit()
     ensures { TEXT_LIMIT ≡ 65536 }
 {}

@@ -1,4 +1,4 @@
-//! Logical lines: a source line that ends in a backslash is joined to the next.
+//! Logical lines of a makefile: a source line that ends in a backslash is joined to the next.
 ghost use Rattle.std.specs.Prelude.{◌≡◌, ◌++◌, IfOk, string_bytes};
 ghost use Rattle.mk_text.specs.Blanks.{trim_blanks};
 ghost use Rattle.mk_text.specs.Lines.{goes_on, unmarked, continued, line_at, logical_lines, without_comment};
@@ -27,22 +27,22 @@ impl Model for Logical {
 }
 
 impl Logical {
-    /// Its text. The text of a command line is kept as it is, with the leading tab. Any other line is
-    /// without its comment and without blanks at both its ends.
+    /// The text of a logical line of a makefile. The text of a command line is kept as it is, with the
+    /// leading tab. Any other line is without its comment and without blanks at both its ends.
     pub fn text(&self) -> &str
         ensures { result.now ≡ self.now.text }
     {
         self.text.as_str()
     }
 
-    /// The number of its first source line, counted from 1.
+    /// The number of the first source line of a logical line of a makefile, counted from 1.
     pub fn line(&self) -> u64
         ensures { result ≡ self.now.line }
     {
         self.line
     }
 
-    /// Whether it is a command line: one that begins with a tab.
+    /// Whether a logical line of a makefile is a command line: one that begins with a tab.
     pub fn is_command(&self) -> bool
         ensures { result ≡ self.now.command }
     {
@@ -58,7 +58,7 @@ struct Run {
 }
 
 impl Run {
-    /// The run that begins with this source line, whose number is `line`.
+    /// The source lines of one logical line, begun: `piece` is the first of them, and `line` its number.
     fn begin(alloc: Global, piece: &str, line: u64) -> Result<Run, AllocError>
         ensures text { IfOk result (λ run. string_bytes run.joined ≡ unmarked piece.now) }
         ensures line { IfOk result (λ run. run.line ≡ line) }
@@ -69,7 +69,8 @@ impl Run {
         })
     }
 
-    /// The run with one more source line.
+    /// The source lines of one logical line, with one more joined to them: a space, and what follows its
+    /// leading blanks.
     fn with(mut self, piece: &str) -> Result<Run, AllocError>
         ensures text { IfOk result (λ run.
             string_bytes run.joined ≡ string_bytes self.joined ++ continued piece.now) }
@@ -80,7 +81,8 @@ impl Run {
         Ok(self)
     }
 
-    /// The logical line of a whole run.
+    /// The logical line of a makefile that these joined source lines make: a command line, or a line without
+    /// its comment.
     fn finish(self, alloc: Global) -> Result<Logical, AllocError>
         ensures { IfOk result (λ logical. logical ≡ line_at self.line (string_bytes self.joined)) }
     {
@@ -100,8 +102,8 @@ impl Run {
     }
 }
 
-/// A joined line that is no command line, without its comment and without blanks at its ends. If it has neither, it is
-/// not copied.
+/// The text of a logical line that is no command line: the joined source lines without their comment and
+/// without blanks at the ends. If there is neither, it is not copied.
 fn plain_text(alloc: Global, joined: String) -> Result<String, AllocError>
     ensures { IfOk result (λ text. string_bytes text
         ≡ trim_blanks (without_comment (string_bytes joined))) }
@@ -113,7 +115,7 @@ fn plain_text(alloc: Global, joined: String) -> Result<String, AllocError>
     trimmed(alloc, joined)
 }
 
-/// A text without the blanks at its ends. If it has none there, it is not copied.
+/// The text of a logical line without the blanks at its ends. If it has none there, it is not copied.
 fn trimmed(alloc: Global, text: String) -> Result<String, AllocError>
     ensures { IfOk result (λ kept. string_bytes kept ≡ trim_blanks (string_bytes text)) }
 {
@@ -125,14 +127,14 @@ fn trimmed(alloc: Global, text: String) -> Result<String, AllocError>
     String::from_str(alloc, kept)
 }
 
-/// Whether a source line goes on in the next: whether it ends in a backslash.
+/// Whether a source line of a makefile goes on in the next: whether it ends in a backslash.
 fn goes_on(piece: &str) -> bool
     ensures { result ≡ goes_on piece.now }
 {
     piece.ends_with('\\')
 }
 
-/// A source line without the backslash at its end.
+/// A source line of a makefile without the backslash at its end.
 fn unmarked(piece: &str) -> &str
     ensures { result.now ≡ unmarked piece.now }
 {

@@ -1,4 +1,4 @@
-//! The profiles of the make language.
+//! The profiles of the make language, and their numbers.
 ghost use Rattle.std.specs.Prelude.{◌≡◌};
 ghost use Rattle.mk_text.specs.Profiles.{profile_number, numbered_profile};
 
@@ -12,7 +12,7 @@ pub enum Profile {
 }
 
 impl Profile {
-    /// The number of the profile, 1 or 2.
+    /// The number of a profile of the make language, 1 or 2.
     pub fn number(self) -> u32
         ensures { result ≡ profile_number self }
     {
@@ -22,7 +22,8 @@ impl Profile {
         }
     }
 
-    /// The profile with this number. Each number below 2 gives the first, and each other the second.
+    /// The profile of the make language with this number. Each number below 2 gives the first, and each other
+    /// the second.
     pub fn with_number(number: u32) -> Profile
         ensures { result ≡ numbered_profile number }
     {

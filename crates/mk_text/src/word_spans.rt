@@ -1,4 +1,4 @@
-//! The words of a text, as places in it.
+//! The words of a text of a makefile, as places in it.
 ghost use Rattle.std.specs.Prelude.{◌≡◌, map, All, IfOk};
 ghost use Rattle.mk_text.specs.Words.{words_of, word_spans, span_text, IsSpanOf};
 
@@ -15,7 +15,7 @@ pub struct Span {
 }
 
 impl Span {
-    /// The part of `text` at this place. `text` is the text that the place was found in.
+    /// The part of `text` at this place, such as a word. `text` is the text that the place was found in.
     pub fn of<'t>(&self, text: &'t str) -> &'t str
         requires { IsSpanOf text.now self.now }
         ensures { result.now ≡ span_text text.now self.now }
@@ -24,8 +24,8 @@ impl Span {
     }
 }
 
-/// The words of `text`, from left to right: the longest stretches of it without a blank (space or tab).
-/// They are places in `text`, in bytes, and `Span::of` gives the text of each. The time is linear in
+/// The places of the words of a makefile's text, from left to right: the longest stretches without a blank
+/// (space or tab). They are in bytes of `text`, and `Span::of` gives the text of each. The time is linear in
 /// the length of `text`.
 ///
 /// # Errors

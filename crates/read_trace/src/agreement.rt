@@ -1,4 +1,4 @@
-//! Whether files answer as they did before.
+//! Whether files agree with a trace: whether they answer its questions as it says.
 ghost use Rattle.std.specs.Prelude.{◌≡◌, [], IfErr, OnErr};
 ghost use Rattle.std.specs.Option.{option_copied};
 ghost use Rattle.mk_files.specs.AfterQuestions.{AfterFailedQuestion};
@@ -10,9 +10,9 @@ use crate::trace::{Question, Reply, Trace};
 use mk_files::{Content, Files};
 use mk_paths::FilesFault;
 
-/// Whether files answer each question of a trace as the trace says, and how many answers were checked:
-/// all of them, or those up to the first that differs. The questions are asked in the trace's order, and
-/// none is asked after one whose answer differs.
+/// Whether files agree with a trace, and how many answers were checked: all of them, or those up to the first
+/// that differs. The questions are asked in the trace's order, and none is asked after one whose answer
+/// differs.
 ///
 /// If the files fail, their fault is returned as it is.
 pub fn agrees<F: Files>(trace: &Trace, files: &mut F) -> Result<(bool, u64), FilesFault>
@@ -31,7 +31,7 @@ pub fn agrees<F: Files>(trace: &Trace, files: &mut F) -> Result<(bool, u64), Fil
     Ok((true, checked))
 }
 
-/// Whether files answer a question as it says.
+/// Whether files give the answer of a trace's question.
 fn has_answer<F: Files>(question: &Question, files: &mut F) -> Result<bool, FilesFault>
     ensures same { TellsIfReplied result (F.view files.old).files question.now }
     ensures asks { AsksOneAgain result (F.view files.old) (F.view files.new) question.now }
@@ -47,7 +47,8 @@ fn has_answer<F: Files>(question: &Question, files: &mut F) -> Result<bool, File
     }
 }
 
-/// Whether two contents have the same bytes, or both are of no file.
+/// Whether the content that files give agrees with that of a trace: both have the same bytes, or both are of
+/// no file.
 fn is_same(one: Option<&Content>, other: Option<&Content>) -> bool
     ensures { result ≡ same_content (option_copied one.entry) (option_copied other.entry) }
 {

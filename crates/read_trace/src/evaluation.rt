@@ -1,4 +1,4 @@
-//! An evaluation whose questions were written down.
+//! An evaluation with its trace, in which its questions were written down.
 ghost use Rattle.std.specs.Prelude.{◌≡◌};
 ghost use Rattle.mk_eval.specs.Agreement.{cost_of};
 
@@ -15,7 +15,7 @@ pub struct Evaluation {
 }
 
 impl Evaluation {
-    /// The units that it cost, up to the fault if it has one.
+    /// The units that an evaluation with a trace cost, up to the fault if it has one.
     pub fn cost(&self) -> u64
         ensures { result ≡ cost_of self.now.outcome }
     {

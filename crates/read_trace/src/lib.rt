@@ -1,5 +1,5 @@
-//! What an evaluation asked of files: a recorder writes down each question with its answer, and other
-//! files can be asked whether they answer the same. Where they do, the evaluation is the same.
+//! What an evaluation asked of files: a recorder writes each question down with its answer in a trace, and
+//! other files can be asked whether they answer the same. Where they do, the evaluation is the same.
 #![tactic(auto)]
 
 mod agreement;

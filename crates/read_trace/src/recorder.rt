@@ -1,4 +1,4 @@
-//! Files that write down what they are asked.
+//! The recorder: files that write down in a trace what they are asked, with each answer.
 ghost use Rattle.std.specs.Prelude.{◌≡◌, Some, [], IfErr, OnErr, true};
 ghost use Rattle.mk_paths.specs.FilesView.{Presence, Contents, Fails};
 ghost use Rattle.read_trace.specs.Agreement.{IsAnswered, MakesQuestion, has_reply};
@@ -26,8 +26,8 @@ impl<F: Files + Drop> Recorder<F> {
     ghost use Rattle.read_trace.specs.Recorder.{view_of, asked_files, recording, log_of, with_trace};
     ghost use Rattle.read_trace.specs.Recorder.{HasContent, NotesOne, NotesContent};
 
-    /// What asks these files, and goes on with this trace, whose answers are those of the files. It takes no
-    /// memory.
+    /// A recorder over these files, which goes on with this trace, whose answers are those of the files. It
+    /// takes no memory.
     pub fn new(alloc: Global, files: F, trace: Trace) -> Recorder<F>
         requires { IsAnswered (F.view files).files trace }
         ensures { view_of F.view result ≡ recording (F.view files) trace }
@@ -40,7 +40,7 @@ impl<F: Files + Drop> Recorder<F> {
         }
     }
 
-    /// What was asked.
+    /// The trace that a recorder has written: what its files were asked.
     pub fn into_trace(self) -> Trace
         ensures { log_of F.view self ≡ Some result }
     {
@@ -48,7 +48,8 @@ impl<F: Files + Drop> Recorder<F> {
         trace
     }
 
-    /// Takes out what was asked so far. After that nothing was asked, as far as the trace says.
+    /// Takes the trace so far out of a recorder. After that nothing was asked, as far as the recorder's trace
+    /// says.
     pub fn take_trace(&mut self) -> Trace
         ensures trace { log_of F.view self.old ≡ Some result }
         ensures rest { view_of F.view self.new ≡ with_trace (view_of F.view self.old) [] }
@@ -57,7 +58,8 @@ impl<F: Files + Drop> Recorder<F> {
         mem::replace(&mut self.trace, Trace::new(self.alloc))
     }
 
-    /// Goes on with this trace, whose answers are those of the files. What was written down before is dropped.
+    /// The recorder goes on with this trace, whose answers are those of its files. What was written down
+    /// before is dropped.
     pub fn go_on(&mut self, trace: Trace)
         requires { Agrees (view_of F.view self.old).files trace }
         ensures { view_of F.view self.new ≡ with_trace (view_of F.view self.old) trace }
@@ -65,7 +67,7 @@ impl<F: Files + Drop> Recorder<F> {
         self.trace = trace;
     }
 
-    /// Writes down whether a file was there. If memory runs out, nothing changes.
+    /// Writes down in the trace whether a file was there. If memory runs out, nothing changes.
     fn note_presence(&mut self, name: &Name, there: bool) -> Result<(), AllocError>
         requires { has_reply (view_of F.view self.old).files (name.now, Presence there) ≡ true }
         ensures ok { NotesOne F.view result self.old self.new (name.now, Presence there) }
@@ -76,8 +78,8 @@ impl<F: Files + Drop> Recorder<F> {
         self.note(Question::new(name, Reply::Presence(there)))
     }
 
-    /// Writes down the content of a file, which the trace then shares, or that the file wasn't there. If
-    /// memory runs out, nothing changes.
+    /// Writes down in the trace the content of a file, which the trace then shares, or that the file wasn't
+    /// there. If memory runs out, nothing changes.
     fn note_content(&mut self, name: &Name, content: Option<&Content>) -> Result<(), AllocError>
         requires { HasContent (view_of F.view self.old).files name.now content }
         ensures ok { NotesContent F.view result self.old self.new name.now content.entry }
@@ -88,7 +90,8 @@ impl<F: Files + Drop> Recorder<F> {
         self.note(question)
     }
 
-    /// Writes down a question that the files answer so. If memory runs out, nothing changes.
+    /// Writes down in the recorder's trace a question with the answer that the files give. If memory runs
+    /// out, nothing changes.
     fn note(&mut self, question: Question) -> Result<(), AllocError>
         requires { has_reply (view_of F.view self.old).files question ≡ true }
         ensures ok { NotesOne F.view result self.old self.new question }
@@ -98,7 +101,7 @@ impl<F: Files + Drop> Recorder<F> {
         self.trace.add(question)
     }
 
-    /// Counts one more question that failed, with this fault.
+    /// Counts one more question to a recorder's files that failed, with this fault.
     fn failed(&mut self, fault: FilesFault) -> FilesFault
         ensures counted { Fails (view_of F.view self.old) (view_of F.view self.new) }
         ensures fault { result ≡ fault }
@@ -109,7 +112,7 @@ impl<F: Files + Drop> Recorder<F> {
     }
 }
 
-/// The question about the content of a file, which it shares, or about a file that wasn't there.
+/// A question for the trace about the content of a file, which it shares, or about a file that wasn't there.
 fn content_question(
     alloc: Global,
     name: &Name,
@@ -132,7 +135,8 @@ impl<F: Files + Drop> Names for Recorder<F> {
 
     ghost fails_with = { MayFail F.fails_with };
 
-    /// Whether a file of this name is there. The files are asked exactly once.
+    /// Whether a file of this name is there, with the answer written down in the trace. The files are asked
+    /// exactly once.
     fn has(&mut self, name: &Name) -> Result<bool, FilesFault>
         ensures answer { AnswersSeen F.view Presence result self.old self.new name.now }
         ensures fault { OnErr result (Fails (view_of F.view self.old) (view_of F.view self.new)) }
@@ -152,7 +156,8 @@ impl<F: Files + Drop> Names for Recorder<F> {
 impl<F: Files + Drop> Files for Recorder<F> {
     ghost use Rattle.read_trace.specs.Recorder.{AnswersSeen, AsksFilesOnce, MayFail, view_of};
 
-    /// The content of the file of this name; `None` if it isn't there. The files are asked exactly once.
+    /// The content of the file of this name, with the answer written down in the trace; `None` if it isn't
+    /// there. The files are asked exactly once.
     fn read(&mut self, name: &Name) -> Result<Option<Content>, FilesFault>
         ensures answer { AnswersSeen F.view Contents result self.old self.new name.now }
         ensures fault { OnErr result (Fails (view_of F.view self.old) (view_of F.view self.new)) }
@@ -170,6 +175,7 @@ impl<F: Files + Drop> Files for Recorder<F> {
 }
 
 impl<F: Listing + Drop> Listing for Recorder<F> {
+    /// The names of all files under a recorder. Listing isn't a question, so nothing is written down.
     fn names(&mut self, alloc: Global) -> Result<Vec<String>, FilesFault> {
         match self.files.names(alloc) {
             Ok(names) => Ok(names),

@@ -1,4 +1,4 @@
-//! Questions about files with their answers.
+//! A trace: the questions that were asked of files, in order, each with its answer.
 ghost use Rattle.std.specs.Prelude.{◌≡◌, [], ◌∷◌, ◌++◌, OnOk, OnErr};
 ghost use Rattle.read_trace.specs.Traces.{reply_of};
 
@@ -33,21 +33,21 @@ impl Model for Question {
 }
 
 impl Question {
-    /// The question about the file of this name that got this answer.
+    /// A question of a trace: about the file of this name, which got this answer.
     pub fn new(name: Name, reply: Reply) -> Question
         ensures { result ≡ (name, reply_of reply) }
     {
         Question { name, reply }
     }
 
-    /// The name of the file.
+    /// The name of the file that a question of a trace is about.
     pub fn name(&self) -> &Name
         ensures { result.now ≡ self.now.0 }
     {
         &self.name
     }
 
-    /// What the files answered.
+    /// The answer of the files to a question of a trace.
     pub fn reply(&self) -> &Reply
         ensures { reply_of result.now ≡ self.now.1 }
     {
@@ -71,7 +71,7 @@ impl Model for Trace {
 }
 
 impl Trace {
-    /// No question at all. It takes no memory.
+    /// A trace without any question. It takes no memory.
     pub fn new(alloc: Global) -> Trace
         ensures { result ≡ [] }
     {
@@ -80,14 +80,15 @@ impl Trace {
         }
     }
 
-    /// The questions, the first one first.
+    /// The questions of a trace with their answers, the first one first.
     pub fn questions(&self) -> &[Question]
         ensures { result.now ≡ self.now }
     {
         self.questions.as_slice()
     }
 
-    /// Adds a question after the others. It fails only if memory runs out, and then nothing changes.
+    /// Adds a question to a trace after the others. It fails only if memory runs out, and then nothing
+    /// changes.
     pub fn add(&mut self, question: Question) -> Result<(), AllocError>
         ensures ok { OnOk result (self.new ≡ self.old ++ question ∷ []) }
         ensures err { OnErr result (self.new ≡ self.old) }

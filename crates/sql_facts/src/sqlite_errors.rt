@@ -12,6 +12,7 @@ impl Library for Sqlite {
 
     ghost for_memory = { IsForMemory };
 
+    /// Whether this error of SQLite says that memory ran out.
     fn is_for_memory(error: &Error) -> bool {
         matches!(error, Error::SqliteFailure(ErrorCode::OutOfMemory))
     }

@@ -1,4 +1,4 @@
-//! Statements in a transaction, and alone.
+//! A statement that runs in a transaction or alone, for both stores.
 ghost use Rattle.std.specs.Prelude.{IsTrue, OnOk, OnErr};
 ghost use Rattle.sqlite.specs.State.{ExecutesInside};
 ghost use Rattle.sqlite.specs.Values.{bound};
@@ -7,8 +7,8 @@ ghost use Rattle.sql_facts.specs.States.{IsSettled, KeepsCommit, Ran, Stays, sta
 use sqlite::types::ValueRef;
 use sqlite::{Connection, Error, MemStore, Transaction};
 
-/// Runs one statement of a transaction and gives the number of rows that it changed. What was committed last
-/// stays as it was, whatever the error, which is that of the database.
+/// Runs one SQL statement of a transaction and gives the number of rows that it changed. What was committed
+/// last stays as it was, whatever the error, which is that of the database.
 pub fn run(
     tx: &mut Transaction<'_, MemStore>,
     sql: &str,
@@ -22,8 +22,8 @@ pub fn run(
     tx.execute(sql, params)
 }
 
-/// Runs one statement that is a transaction of its own. After an error, which is that of the database, nothing has
-/// changed.
+/// Runs one SQL statement that is a transaction of its own. After an error, which is that of the database,
+/// nothing has changed.
 pub fn run_alone(
     conn: &mut Connection<MemStore>,
     sql: &str,

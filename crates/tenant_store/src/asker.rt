@@ -1,4 +1,4 @@
-//! Work over the files that leaves the store as it was.
+//! Work that asks about a tenant's files and leaves its store as it was.
 ghost use Rattle.std.specs.Prelude.{◌≡◌};
 ghost use Rattle.tenant_store.specs.TenantWorld.{view_of, store_reference, held_by, opened_files};
 
@@ -19,14 +19,15 @@ pub trait Asker {
 
     ghost answered: { Self → FilesView → Self → Type 0 };
 
-    /// Reads and lists the files.
+    /// Does the work of an asker: reads and lists a tenant's files.
     fn ask<F: Listing>(&mut self, files: &mut F)
         requires { ready self.old (F.view files.old) }
         ensures { answered self.old (F.view files.old) self.new };
 }
 
 impl TenantStore {
-    /// Does this work over the files. Whatever the work asks, nothing that is held changes.
+    /// Does an asker's work over the tenant's files. Whatever the work asks, nothing changes that the store
+    /// holds.
     pub fn ask<A: Asker>(&mut self, alloc: Global, asker: &mut A)
         requires { A.ready asker.old (opened_files self.old) }
         ensures answered { A.answered asker.old (opened_files self.old) asker.new }
@@ -37,7 +38,8 @@ impl TenantStore {
     }
 }
 
-/// The same over files that were lent. They come back over the same store, and the store is as it was.
+/// Does an asker's work over a tenant's files that are lent. They come back over the same store, and the
+/// store is as it was.
 fn ask_over<'s, L: Lent, A: Asker>(files: TenantFiles<'s>, asker: &mut A) -> TenantFiles<'s>
     requires name { store_reference files ≡ L.name }
     requires held { held_by files ≡ L.held }

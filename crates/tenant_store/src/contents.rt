@@ -1,12 +1,12 @@
-//! The contents of files that were read last, which are kept in memory.
+//! The contents of a tenant's files that were read last, which are kept in memory beside the database.
 ghost use Rattle.tenant_store.specs.Contents.{FindsContent, KeepsContents, TakesContent};
 
 use lru::LruCache;
 use mk_files::Content;
 use std::alloc::{AllocError, Global};
 
-/// The content of the file of this name, if it is kept. It is then the one that was read last. It fails only if no more
-/// can share the content.
+/// The content of the tenant's file of this name, if it is kept in memory. It is then the one that was read
+/// last. It fails only if no more can share the content.
 pub(crate) fn kept_content(
     kept: &mut LruCache<String, Content>,
     name: &str,
@@ -20,8 +20,8 @@ pub(crate) fn kept_content(
     }
 }
 
-/// Keeps the content of the file of this name, if there is memory for that. If there are too many, the one goes that was
-/// read before all others.
+/// Keeps the content of a tenant's file of this name beside the database, if there is memory for that. If
+/// there are too many contents, the one that was read before all others goes.
 pub(crate) fn keep_content(
     alloc: Global,
     kept: &mut LruCache<String, Content>,

@@ -1,4 +1,4 @@
-//! Why a call of the store is refused.
+//! Why a tenant's file isn't stored.
 
 use mk_paths::FilesFault;
 use refusals::{OutOfMemory, StoreRefusal};
@@ -24,6 +24,7 @@ impl From<FilesFault> for PutFault {
 
     ghost from_gives = { λ fault result. result ≡ put_fault fault };
 
+    /// Why a tenant's file isn't stored, by the fault of its files: the database or memory.
     fn from(fault: FilesFault) -> PutFault {
         match fault {
             FilesFault::Store(refusal) => PutFault::Store(refusal),

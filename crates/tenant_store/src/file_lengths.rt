@@ -1,4 +1,4 @@
-//! What is noted in memory of the files.
+//! The names of a tenant's files with their lengths, as they are noted in memory beside the database.
 ghost use Rattle.std.specs.Prelude.{◌≡◌, ◌+◌, ◌≤◌, None, Some, IsSome, OnOk, OnErr};
 ghost use Rattle.std.specs.BTreeMap.{get_by_text};
 ghost use Rattle.tenant_store.specs.Lengths.{NotesLength, ListsNotedFiles};
@@ -8,8 +8,8 @@ use mk_paths::FilesFault;
 use std::alloc::{AllocError, Global};
 use std::collections::BTreeMap;
 
-/// Notes a file of this name and length, whether or not one of the name was noted. If memory runs out, it fails, and
-/// nothing changes.
+/// Notes the name and the length of a tenant's file, whether or not one of the name was noted. If memory runs
+/// out, it fails, and nothing changes.
 pub(crate) fn note(
     alloc: Global,
     lengths: &mut BTreeMap<String, usize>,
@@ -25,14 +25,14 @@ pub(crate) fn note(
     }
 }
 
-/// Forgets the file of this name.
+/// Forgets the length of the tenant's file of this name, which is gone.
 pub(crate) fn forget(lengths: &mut BTreeMap<String, usize>, name: &str)
     ensures { NotesLength lengths.old lengths.new name.now None }
 {
     let _noted = lengths.remove(name);
 }
 
-/// Gives the noted file of this name the length that it had, or forgets it if it wasn't there.
+/// Gives the noted file of this name of a tenant the length that it had, or forgets it if it wasn't there.
 pub(crate) fn put_back(lengths: &mut BTreeMap<String, usize>, name: &str, had: Option<usize>)
     requires { IsSome (get_by_text lengths.old name.now) }
     ensures { NotesLength lengths.old lengths.new name.now had }
@@ -47,7 +47,7 @@ pub(crate) fn put_back(lengths: &mut BTreeMap<String, usize>, name: &str, had: O
     }
 }
 
-/// The same with one file fewer, of this length.
+/// How many files and bytes a tenant has once a file of this length is gone.
 pub(crate) fn without(usage: Usage, length: usize) -> Usage
     requires files { 1 ≤ usage.files }
     requires bytes { length ≤ usage.bytes }
@@ -60,7 +60,7 @@ pub(crate) fn without(usage: Usage, length: usize) -> Usage
     }
 }
 
-/// The names that are noted, in the order of their bytes.
+/// The noted names of a tenant's files, in the order of their bytes.
 pub(crate) fn list_of(
     alloc: Global,
     lengths: &BTreeMap<String, usize>,

@@ -1,4 +1,4 @@
-//! The files of a store that is known not to change with any question.
+//! The files of a tenant's store that is lent: whatever is asked, the store stays as it was.
 ghost use Rattle.std.specs.Prelude.{◌≡◌};
 ghost use Rattle.std.specs.Coded.{Coded-set};
 ghost use Rattle.mk_paths.specs.World.{world_code};
@@ -40,7 +40,7 @@ pub(crate) struct LentFiles<'s, L: Lent> {
 }
 
 impl<'s, L: Lent> LentFiles<'s, L> {
-    /// The same files, over the store that `L` names.
+    /// The files of a tenant as lent files, over the store that `L` names.
     pub(crate) fn new(files: TenantFiles<'s>) -> LentFiles<'s, L>
         requires name { store_reference files ≡ L.name }
         requires held { held_by files ≡ L.held }
@@ -52,7 +52,7 @@ impl<'s, L: Lent> LentFiles<'s, L> {
         }
     }
 
-    /// The files as they were before, with the failures counted since.
+    /// The files of a tenant that were lent, as they were before, with the failures counted since.
     pub(crate) fn into_files(self) -> TenantFiles<'s>
         ensures name { store_reference result ≡ L.name }
         ensures held { held_by result ≡ L.held }
@@ -68,18 +68,21 @@ impl<L: Lent> Names for LentFiles<'_, L> {
 
     ghost fails_with = { IsAnyFault };
 
+    /// Whether a file of this name is there, among a tenant's lent files.
     fn has(&mut self, name: &Name) -> Result<bool, FilesFault> {
         Ok(self.files.holds(name))
     }
 }
 
 impl<L: Lent> Files for LentFiles<'_, L> {
+    /// The content of the file of this name, among a tenant's lent files; `None` if it isn't there.
     fn read(&mut self, name: &Name) -> Result<Option<Content>, FilesFault> {
         self.files.content(name)
     }
 }
 
 impl<L: Lent> Listing for LentFiles<'_, L> {
+    /// The names of all of a tenant's lent files, in the order of their bytes.
     fn names(&mut self, alloc: Global) -> Result<Vec<String>, FilesFault> {
         self.files.listed(alloc)
     }

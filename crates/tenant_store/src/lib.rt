@@ -1,4 +1,4 @@
-//! The files, the search path and the profile of one tenant, in a database in memory.
+//! The files, the search path and the profile of one tenant, in a database in memory of its own.
 #![tactic(auto)]
 
 mod asker;

@@ -1,4 +1,4 @@
-//! The statements that read.
+//! The queries on a tenant's database: statements that read a file's content and the settings.
 ghost use Rattle.std.specs.Prelude.{◌≡◌, IfOk};
 ghost use Rattle.sql_facts.specs.States.{state_of};
 ghost use Rattle.tenant_store.specs.Tables.{IsStoreAtRest, ShowSettings, AreSettings};
@@ -16,6 +16,7 @@ pub(crate) struct SettingsRow {
     pub(crate) profile: Profile,
 }
 
+/// The rows that the query for the content of the tenant's file of this name gives: one, or none.
 fn content_rows(conn: &mut Connection<MemStore>, name: &str) -> Result<Vec<Row>, Error>
     requires { IsStoreAtRest (state_of conn.old) }
     ensures rows { ShowsContent result (conn_world conn.old) name.now }
@@ -25,7 +26,7 @@ fn content_rows(conn: &mut Connection<MemStore>, name: &str) -> Result<Vec<Row>,
     conn.query_all("SELECT content FROM file WHERE name = ?1", params![name])
 }
 
-/// The content of the file of this name, if it is there.
+/// The content of the tenant's file of this name by a query on the database, if it is there.
 pub(crate) fn content_of(
     conn: &mut Connection<MemStore>,
     name: &str,
@@ -42,6 +43,7 @@ pub(crate) fn content_of(
     }
 }
 
+/// The rows that the query for the tenant's settings gives: one.
 fn settings_rows(conn: &mut Connection<MemStore>) -> Result<Vec<Row>, Error>
     requires { IsStoreAtRest (state_of conn.old) }
     ensures rows { IfOk result (λ rows. ShowSettings rows.items (holdings_of conn.old).settings) }
@@ -51,6 +53,7 @@ fn settings_rows(conn: &mut Connection<MemStore>) -> Result<Vec<Row>, Error>
     conn.query_all("SELECT path, profile FROM settings", &[])
 }
 
+/// The tenant's settings as a row of the query has them.
 fn settings_from(row: &Row) -> Result<SettingsRow, Error>
     ensures { IfOk result (λ read. AreSettings row.now (shown_settings read)) }
 {
@@ -60,7 +63,7 @@ fn settings_from(row: &Row) -> Result<SettingsRow, Error>
     })
 }
 
-/// The settings.
+/// The row of the tenant's settings by a query on the database: the search path and the profile.
 pub(crate) fn settings_row(conn: &mut Connection<MemStore>) -> Result<SettingsRow, Error>
     requires { IsStoreAtRest (state_of conn.old) }
     ensures settings { IfOk result (AreSettingsOf (conn_world conn.old)) }

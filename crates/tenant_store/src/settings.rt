@@ -1,4 +1,4 @@
-//! The calls of the store that change a setting.
+//! The changes of a tenant's settings in its database: of the search path and of the profile.
 ghost use Rattle.std.specs.Prelude.{◌≡◌, IfOk, OnOk, OnErr, string_bytes};
 ghost use Rattle.mk_paths.specs.SearchPath.{IsSearchPath, trees_of};
 ghost use Rattle.mk_paths.specs.World.{with_search_path, with_profile};
@@ -13,7 +13,7 @@ use mk_text::Profile;
 use sqlite::{Connection, Error, MemStore};
 use std::alloc::{AllocError, Global};
 
-/// Sets the search path.
+/// Sets the search path in the row of the tenant's settings. The profile stays.
 pub(crate) fn set_path(
     conn: &mut Connection<MemStore>,
     alloc: Global,
@@ -32,7 +32,7 @@ pub(crate) fn set_path(
     update_settings(conn, &next)
 }
 
-/// Sets the profile.
+/// Sets the profile in the row of the tenant's settings. The search path stays.
 pub(crate) fn set_profile(conn: &mut Connection<MemStore>, profile: Profile) -> Result<(), Error>
     requires { IsStoreAtRest (state_of conn.old) }
     ensures kept { IsStoreAtRest (state_of conn.new) }
@@ -47,7 +47,7 @@ pub(crate) fn set_profile(conn: &mut Connection<MemStore>, profile: Profile) -> 
     update_settings(conn, &next)
 }
 
-/// The trees of a search path, with colons between them.
+/// The text of a search path in the tenant's settings: its trees, with colons between them.
 fn path_text(alloc: Global, path: &SearchPath) -> Result<String, AllocError>
     ensures text { IfOk result (λ text. trees_of (string_bytes text) ≡ path.now) }
     ensures is_path { IsSearchPath path.now }
@@ -56,7 +56,7 @@ fn path_text(alloc: Global, path: &SearchPath) -> Result<String, AllocError>
     joined(alloc, trees[0].as_str(), &trees[1..])
 }
 
-/// The first text, and each other text after a colon.
+/// The first tree of a search path, and each other tree after a colon.
 fn joined(alloc: Global, first: &str, more: &[String]) -> Result<String, AllocError>
     ensures { JoinsTrees result first.now more.now }
 {

@@ -1,4 +1,4 @@
-//! The store as its callers see it.
+//! The store of one tenant's files and settings, as its callers see it.
 ghost use Rattle.std.specs.Prelude.{◌≡◌, map, string_bytes, IfOk, None, OnOk, OnErr};
 ghost use Rattle.std.specs.FinMap.{get, keys, contains_key};
 ghost use Rattle.mk_paths.specs.SearchPath.{IsSearchPath, trees_of};
@@ -61,8 +61,9 @@ impl Model for TenantStore {
 }
 
 impl TenantStore {
-    /// A store without a file, with the path `/ports:/mystuff` and the first profile. It keeps so many contents at most
-    /// in memory beside the database: of the files that were read last since the last write.
+    /// The store of a tenant without a file, with the path `/ports:/mystuff` and the first profile. It keeps
+    /// so many contents at most in memory beside the database: of the files that were read last since the
+    /// last write.
     ///
     /// The error is `Store` if the database refuses a statement, and `Memory` if memory runs out.
     pub fn open_in_memory(alloc: Global, contents: NonZeroUsize) -> Result<TenantStore, FilesFault>
@@ -81,7 +82,7 @@ impl TenantStore {
         }
     }
 
-    /// Gives the file of this name this content, whether or not the file was there.
+    /// Gives the tenant's file of this name this content, whether or not the file was there.
     ///
     /// # Errors
     ///
@@ -114,7 +115,7 @@ impl TenantStore {
         }
     }
 
-    /// Removes the file of this name, and gives whether it was there.
+    /// Removes the tenant's file of this name, and gives whether it was there.
     ///
     /// # Errors
     ///
@@ -140,8 +141,8 @@ impl TenantStore {
         }
     }
 
-    /// The content of the file of this name; `None` if it isn't there. The database isn't asked if the file isn't there,
-    /// or if its content is kept.
+    /// The content of the tenant's file of this name; `None` if it isn't there. The database isn't asked if
+    /// the file isn't there, or if its content is kept.
     ///
     /// # Errors
     ///
@@ -164,21 +165,22 @@ impl TenantStore {
         Ok(found)
     }
 
-    /// Whether a file of this name is there. The database isn't asked.
+    /// Whether the tenant has a file of this name. The database isn't asked.
     pub fn has_file(&self, name: &Name) -> bool
         ensures { result ≡ contains_key (files_in self.now) name.now }
     {
         self.lengths.contains_key(name.as_str())
     }
 
-    /// The names of all files, in the order of their bytes. The database isn't asked, so it fails only if memory runs out.
+    /// The names of all files of the tenant, in the order of their bytes. The database isn't asked, so it
+    /// fails only if memory runs out.
     pub fn names(&self, alloc: Global) -> Result<Vec<String>, AllocError>
         ensures { IfOk result (λ names. map string_bytes names.items ≡ keys (files_in self.now)) }
     {
         list_of(alloc, &self.lengths)
     }
 
-    /// Sets the search path.
+    /// Sets the tenant's search path in its store.
     ///
     /// # Errors
     ///
@@ -194,7 +196,7 @@ impl TenantStore {
         }
     }
 
-    /// Sets the profile.
+    /// Sets the tenant's profile in its store.
     ///
     /// # Errors
     ///
@@ -210,8 +212,8 @@ impl TenantStore {
         }
     }
 
-    /// The settings: the search path, which is `/ports:/mystuff` until one is set, and the profile, which is
-    /// the first until one is set.
+    /// The settings of the tenant: the search path, which is `/ports:/mystuff` until one is set, and the
+    /// profile, which is the first until one is set.
     ///
     /// # Errors
     ///
@@ -224,9 +226,9 @@ impl TenantStore {
         settings_of(&mut self.conn, alloc)
     }
 
-    /// Limits the steps of each later statement; with `None` they are no longer limited. If a statement
-    /// would take more steps, it is refused as `Store`. The end of a transaction takes no steps. This
-    /// changes nothing that is held.
+    /// Limits the steps of each later statement on the tenant's files and settings; with `None` they are no
+    /// longer limited. If a statement would take more steps, it is refused as `Store`. The end of a
+    /// transaction takes no steps. This changes nothing that is held.
     pub fn limit_steps(&mut self, limit: Option<u64>)
         ensures { self.new ≡ self.old }
     {
@@ -234,7 +236,7 @@ impl TenantStore {
     }
 }
 
-/// The search path of a text that the store holds.
+/// The search path of a text that the tenant's store holds.
 fn path_from(alloc: Global, text: &str) -> Result<SearchPath, AllocError>
     requires { IsSearchPath (trees_of text.now) }
     ensures { IfOk result (λ path. path ≡ trees_of text.now) }
@@ -246,7 +248,7 @@ fn path_from(alloc: Global, text: &str) -> Result<SearchPath, AllocError>
     }
 }
 
-/// The content of a file as the database has it, if it is there, to be shared.
+/// The content of a tenant's file as the database has it, if it is there, to be shared.
 fn stored_content(
     conn: &mut Connection<MemStore>,
     alloc: Global,
@@ -264,7 +266,7 @@ fn stored_content(
     }
 }
 
-/// The settings.
+/// The settings of a tenant as its database has them: the search path and the profile.
 fn settings_of(conn: &mut Connection<MemStore>, alloc: Global) -> Result<Settings, FilesFault>
     requires { IsStoreAtRest (state_of conn.old) }
     ensures path { IfOk result (λ found. found.path ≡ search_path_of (conn_world conn.old)) }

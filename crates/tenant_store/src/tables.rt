@@ -1,4 +1,4 @@
-//! The database as it begins.
+//! The tables of a tenant's database as it begins: of the files, and of the settings.
 ghost use Rattle.std.specs.Prelude.{◌≡◌, [], IfOk, OnOk, false};
 ghost use Rattle.mk_paths.specs.World.{opening_world};
 ghost use Rattle.tenant_store.specs.Tables.{HoldsWorld, IsBare, file_schema};
@@ -9,6 +9,7 @@ use sql_facts::run_alone;
 use sqlite::{Connection, Error, MemStore};
 use std::alloc::Global;
 
+/// The statement that makes the table of the tenant's files, without a row.
 fn create_files(conn: &mut Connection<MemStore>) -> Result<(), Error>
     requires autocommit { (state_of conn.old).in_transaction ≡ false }
     requires schema { (state_of conn.old).now.schema ≡ no_schema }
@@ -23,6 +24,7 @@ fn create_files(conn: &mut Connection<MemStore>) -> Result<(), Error>
     Ok(())
 }
 
+/// The statement that makes the table of the tenant's settings, without a row.
 fn create_settings(conn: &mut Connection<MemStore>) -> Result<(), Error>
     requires autocommit { (state_of conn.old).in_transaction ≡ false }
     requires schema { (state_of conn.old).now.schema ≡ file_schema }
@@ -37,7 +39,8 @@ fn create_settings(conn: &mut Connection<MemStore>) -> Result<(), Error>
     Ok(())
 }
 
-/// The standard path and the first profile.
+/// The statement that puts the first row into the table of the settings: the path `/ports:/mystuff` and the
+/// first profile.
 fn insert_settings(conn: &mut Connection<MemStore>) -> Result<(), Error>
     requires settled { IsSettled (state_of conn.old) }
     requires bare { IsBare (state_of conn.old).now }
@@ -50,7 +53,7 @@ fn insert_settings(conn: &mut Connection<MemStore>) -> Result<(), Error>
     )
 }
 
-/// A database with the two tables, no file, and the first settings.
+/// A tenant's database with its two tables: no file, and the first settings.
 pub(crate) fn open(alloc: Global) -> Result<Connection<MemStore>, Error>
     ensures { IfOk result (λ conn. HoldsWorld (state_of conn) opening_world) }
 {

@@ -1,4 +1,5 @@
-//! The statements that write. Each is a transaction of its own: after an error nothing has changed.
+//! The updates of a tenant's database: statements that write. Each is a transaction of its own: after an
+//! error nothing has changed.
 ghost use Rattle.std.specs.Prelude.{◌≡◌, OnOk, OnErr, IsTrue, None, string_bytes};
 ghost use Rattle.std.specs.FinMap.{get, contains_key};
 ghost use Rattle.mk_paths.specs.SearchPath.{IsSearchPath, trees_of};
@@ -11,6 +12,7 @@ use crate::queries::SettingsRow;
 use sql_facts::run_alone;
 use sqlite::{Connection, Error, MemStore, params};
 
+/// The statement that adds a file of a new name to the table of the tenant's files.
 fn insert_file(conn: &mut Connection<MemStore>, name: &str, content: &[u8]) -> Result<(), Error>
     requires kept { IsStoreAtRest (state_of conn.old) }
     requires free { get (files_in (conn_world conn.old)) name.now ≡ None }
@@ -25,6 +27,7 @@ fn insert_file(conn: &mut Connection<MemStore>, name: &str, content: &[u8]) -> R
     )
 }
 
+/// The statement that gives the file of this name in the table of the tenant's files other content.
 fn update_file(conn: &mut Connection<MemStore>, name: &str, content: &[u8]) -> Result<(), Error>
     requires kept { IsStoreAtRest (state_of conn.old) }
     requires there { IsTrue (contains_key (files_in (conn_world conn.old)) name.now) }
@@ -39,7 +42,8 @@ fn update_file(conn: &mut Connection<MemStore>, name: &str, content: &[u8]) -> R
     )
 }
 
-/// Stores a file: in place of the one of its name if that is there, or beside the others.
+/// Writes a file into the table of the tenant's files: in place of the one of its name if that is there, or
+/// beside the others.
 pub(crate) fn write_file(
     conn: &mut Connection<MemStore>,
     name: &str,
@@ -59,7 +63,7 @@ pub(crate) fn write_file(
     }
 }
 
-/// Removes a file.
+/// The statement that deletes the file of this name from the table of the tenant's files.
 pub(crate) fn delete_file(conn: &mut Connection<MemStore>, name: &str) -> Result<(), Error>
     requires { IsStoreAtRest (state_of conn.old) }
     ensures kept { IsStoreAtRest (state_of conn.new) }
@@ -69,7 +73,7 @@ pub(crate) fn delete_file(conn: &mut Connection<MemStore>, name: &str) -> Result
     run_alone(conn, "DELETE FROM file WHERE name = ?1", params![name])
 }
 
-/// Sets the settings.
+/// The statement that writes the tenant's settings into their table: the search path and the profile.
 pub(crate) fn update_settings(
     conn: &mut Connection<MemStore>,
     settings: &SettingsRow,

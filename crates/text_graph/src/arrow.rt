@@ -1,4 +1,4 @@
-//! Arrows from text to text.
+//! Arrows from text to text, their ends and their beginnings.
 ghost use Rattle.text_graph.specs.Arrows.{arrows_seen, ends_of};
 ghost use Rattle.text_graph.specs.TextSearch.{all_turned, next_texts};
 ghost use Rattle.text_graph.specs.SearchResults.{GivesArrows, LendsTexts};
@@ -14,7 +14,7 @@ pub struct Arrow<'a> {
     pub to: &'a str,
 }
 
-/// The same arrows, turned: each from its end to its beginning.
+/// Arrows between texts, turned: each from its end to its beginning.
 pub(crate) fn turned<'a>(alloc: Global, arrows: &[Arrow<'a>]) -> Result<Vec<Arrow<'a>>, AllocError>
     ensures { GivesArrows result (all_turned (arrows_seen arrows.now)) }
 {
@@ -28,7 +28,7 @@ pub(crate) fn turned<'a>(alloc: Global, arrows: &[Arrow<'a>]) -> Result<Vec<Arro
     Ok(turned)
 }
 
-/// The texts where these arrows end.
+/// The texts where these arrows end, in the order of the arrows.
 pub(crate) fn ends<'a>(alloc: Global, arrows: &[Arrow<'a>]) -> Result<Vec<&'a str>, AllocError>
     ensures { LendsTexts result (ends_of (arrows_seen arrows.now)) }
 {
@@ -39,7 +39,7 @@ pub(crate) fn ends<'a>(alloc: Global, arrows: &[Arrow<'a>]) -> Result<Vec<&'a st
     Ok(ends)
 }
 
-/// The texts where the arrows begin that end at `goal`.
+/// The texts where the arrows to the text `goal` begin.
 pub(crate) fn beginnings<'a>(
     alloc: Global,
     arrows: &[Arrow<'a>],

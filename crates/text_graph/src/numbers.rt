@@ -1,4 +1,4 @@
-//! Texts and their numbers.
+//! The numbers of texts between which arrows lead.
 ghost use Rattle.std.specs.Prelude.{◌≡◌, ◌<◌, fold, None, IfOk, OnOk, length, true, false};
 ghost use Rattle.text_parts.specs.Cuts.{now_all};
 ghost use Rattle.text_graph.specs.Arrows.{arrows_seen, beginnings_of, ends_of};
@@ -41,7 +41,7 @@ pub(crate) struct NumberedArrow {
 }
 
 impl<'a> Numbers<'a> {
-    /// No text was met yet.
+    /// The numbers of texts before any text was met.
     pub(crate) fn new(alloc: Global) -> Result<Numbers<'a>, AllocError>
         ensures { IfOk result IsNumbering }
     {
@@ -52,7 +52,7 @@ impl<'a> Numbers<'a> {
         })
     }
 
-    /// How many texts were met.
+    /// How many texts were met and have a number.
     pub(crate) fn count(&self) -> usize
         ensures { result ≡ length (texts_met self.now) }
     {
@@ -76,8 +76,7 @@ impl<'a> Numbers<'a> {
         Ok(numbers)
     }
 
-    /// The arrows by the numbers of the texts between which they lead, each of which is met now if it
-    /// wasn't before.
+    /// The arrows between texts by the texts' numbers. Each text is met now if it wasn't before.
     pub(crate) fn of_arrows(
         &mut self,
         alloc: Global,
@@ -97,7 +96,8 @@ impl<'a> Numbers<'a> {
         Ok(numbered)
     }
 
-    /// An arrow by numbers. A text that has the same place in the arrow before isn't looked up.
+    /// An arrow by the numbers of its texts. A text that has the same place in the arrow before isn't looked
+    /// up.
     fn of_arrow(
         &mut self,
         arrow: &Arrow<'a>,
@@ -113,8 +113,8 @@ impl<'a> Numbers<'a> {
         Ok(NumberedArrow { from, to })
     }
 
-    /// The number of a text, which is met now if it wasn't before. If it is this number, the text isn't looked
-    /// up.
+    /// The number of a text, which is met now if it wasn't before. If it is the number `before`, the text
+    /// isn't looked up.
     fn of_text(&mut self, text: &'a str, before: usize) -> Result<usize, AllocError>
         requires { IsNumbering self.old }
         ensures number { GivesNumber result self.new text.now }
@@ -131,7 +131,7 @@ impl<'a> Numbers<'a> {
         }
     }
 
-    /// Whether this is the number of a text.
+    /// Whether a text that was met has this number.
     fn is_at(&self, number: usize, text: &str) -> bool
         requires { IsNumbering self.now }
         ensures is { result ≡ true → IsNumberOf number self.now text.now }
@@ -140,7 +140,7 @@ impl<'a> Numbers<'a> {
         number < self.texts.len() && self.texts[number] == text
     }
 
-    /// The number of the first text of its slot, which is met now.
+    /// The new number of a text that is the first of its slot, and is met now.
     fn add_first(&mut self, text: &'a str, slot: usize) -> Result<usize, AllocError>
         requires numbering { IsNumbering self.old }
         requires slot { slot ≡ slot_of text.now }
@@ -171,7 +171,7 @@ impl<'a> Numbers<'a> {
         Ok(number)
     }
 
-    /// The texts of these numbers.
+    /// The texts that have these numbers.
     pub(crate) fn texts_of(
         &self,
         alloc: Global,
@@ -188,7 +188,7 @@ impl<'a> Numbers<'a> {
     }
 }
 
-/// The slot of a text.
+/// The slot in which the number of a text is looked up, by the text's bytes.
 fn slot_of(text: &str) -> usize
     ensures is { result ≡ slot_of text.now }
     ensures inside { result < SLOTS }
@@ -203,7 +203,7 @@ fn slot_of(text: &str) -> usize
     (spread_bytes(mark, rest) >> 48) as usize % SLOTS
 }
 
-/// A mark, spread with each of these bytes.
+/// A mark for the slot of a text, spread with each of these bytes.
 fn spread_bytes(mark: u64, bytes: &[u8]) -> u64
     ensures { result ≡ fold spread mark bytes.now }
 {
@@ -214,7 +214,7 @@ fn spread_bytes(mark: u64, bytes: &[u8]) -> u64
     mark
 }
 
-/// A mark, spread with one number more.
+/// A mark for the slot of a text, spread with one number more.
 fn spread(mark: u64, number: u64) -> u64
     ensures { result ≡ spread mark number }
 {

@@ -1,4 +1,4 @@
-//! All texts that are reached, and all that reach a text.
+//! All texts that are reached over arrows, and all that reach a text.
 ghost use Rattle.std.specs.Prelude.{◌≡◌};
 ghost use Rattle.text_parts.specs.Order.{in_order};
 ghost use Rattle.text_parts.specs.Cuts.{now_all};
@@ -10,8 +10,8 @@ use crate::arrow::{Arrow, beginnings, ends, turned};
 use crate::text_search::search;
 use std::alloc::{AllocError, Global};
 
-/// All texts that are reached over one or more arrows: the first arrow is one of `first`, and each
-/// other is one of `arrows`. The texts are in the order of their bytes, each once. It fails only if
+/// All texts that are reached over one or more arrows between texts: the first arrow is one of `first`, and
+/// each other is one of `arrows`. The texts are in the order of their bytes, each once. It fails only if
 /// memory runs out.
 pub fn reached<'a>(
     alloc: Global,
@@ -42,7 +42,7 @@ pub fn reaching<'a>(
     Ok(texts)
 }
 
-/// Sorts texts by their bytes, and leaves one of each.
+/// Puts the texts that were reached in the order of their bytes, each once.
 fn put_in_order(texts: &mut Vec<&str>)
     ensures { now_all texts.new.items ≡ in_order (now_all texts.old.items) }
 {

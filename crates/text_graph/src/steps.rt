@@ -1,4 +1,4 @@
-//! Where the arrows from each text lead.
+//! The steps over arrows: where the arrows from each text lead.
 ghost use Rattle.std.specs.Prelude.{◌≡◌, ◌<◌, [], IfOk, length};
 ghost use Rattle.std.specs.List.{All};
 ghost use Rattle.text_graph.specs.Numbers.{next_kept, BeginWithin};
@@ -14,7 +14,7 @@ pub(crate) struct Steps {
 }
 
 impl Steps {
-    /// The steps over these arrows between this many texts.
+    /// The steps over these arrows between so many texts: for each text, where its arrows lead.
     pub(crate) fn over(
         alloc: Global,
         count: usize,
@@ -31,7 +31,7 @@ impl Steps {
         Ok(Steps { next })
     }
 
-    /// Where the arrows from a text lead, in the order of the arrows.
+    /// The steps from the text with this number: where its arrows lead, in the order of the arrows.
     pub(crate) fn next(&self, number: usize) -> &[usize]
         requires { number < length self.now.next.items }
         ensures { result.now ≡ next_kept self.now number }
@@ -40,7 +40,7 @@ impl Steps {
     }
 }
 
-/// So many texts from which no arrow leads.
+/// The steps between so many texts before any arrow: each leads nowhere.
 fn nowhere(alloc: Global, count: usize) -> Result<Vec<Vec<usize>>, AllocError>
     ensures count { IfOk result (λ next. length next.items ≡ count) }
     ensures none { IfOk result (λ next. All (λ numbers. numbers.items ≡ []) next.items) }

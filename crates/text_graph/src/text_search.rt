@@ -1,4 +1,4 @@
-//! A search for all texts that are reached, breadth first.
+//! The search for all texts that are reached over arrows, breadth first.
 ghost use Rattle.std.specs.Prelude.{◌<◌, [], IfOk};
 ghost use Rattle.text_parts.specs.Cuts.{now_all};
 ghost use Rattle.text_graph.specs.Arrows.{arrows_seen};
@@ -20,7 +20,7 @@ struct Found {
 }
 
 impl Found {
-    /// None of so many texts is found yet.
+    /// What a search over arrows has found at first: none of so many texts.
     fn new(alloc: Global, count: usize) -> Result<Found, AllocError>
         ensures numbers { FindsNumbers result [] }
         ensures knows { IfOk result KnowsItsNumbers }
@@ -32,7 +32,7 @@ impl Found {
         })
     }
 
-    /// The same with one more text, if it is new.
+    /// What a search over arrows has found, with one more text, if it is new.
     fn with(mut self, number: usize) -> Result<Found, AllocError>
         requires knows { KnowsItsNumbers self }
         requires inside { number < marks_count self }
@@ -48,7 +48,7 @@ impl Found {
         Ok(self)
     }
 
-    /// The same with those of these texts that are new.
+    /// What a search over arrows has found, with those of these texts that are new.
     fn with_all(self, numbers: &[usize]) -> Result<Found, AllocError>
         requires knows { KnowsItsNumbers self }
         requires inside { AreWithin (marks_count self) numbers.now }
@@ -64,7 +64,7 @@ impl Found {
     }
 }
 
-/// These texts, and all that are reached from them, in no particular order.
+/// A search over arrows: these texts, and all that are reached from them, in no particular order.
 pub(crate) fn search<'a>(
     alloc: Global,
     starts: &[&'a str],

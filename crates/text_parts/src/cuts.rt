@@ -1,10 +1,10 @@
-//! A text cut in two.
+//! A text cut in two at a mark.
 ghost use Rattle.std.specs.Prelude.{◌<◌, IfSome};
 ghost use Rattle.text_parts.specs.Cuts.{IsMarkAt, CutsWhere, FindsMark};
 
-/// The part of `text` before a mark and the part after it, as slices. The mark is the first `mark` for
-/// which `passes` answers true; `passes` is given all that follows the mark, as bytes. If there is no
-/// such mark, it is `None`.
+/// The part of `text` before a mark and the part after it, as slices: the text cut in two. The mark is the
+/// first `mark` for which `passes` answers true; `passes` is given all that follows the mark, as bytes. If
+/// there is no such mark, it is `None`.
 pub fn cut_where<F: Fn(&[u8]) -> bool>(text: &str, mark: char, passes: F) -> Option<(&str, &str)>
     requires ascii { mark < 128 }
     requires callable { F.IsAlwaysCallable passes }
@@ -14,7 +14,8 @@ pub fn cut_where<F: Fn(&[u8]) -> bool>(text: &str, mark: char, passes: F) -> Opt
     Some((&text[..at], &text[at + 1..]))
 }
 
-/// The place of the first such mark.
+/// The place of the first mark where a text is cut in two: the first byte `mark` for which `passes` answers
+/// true.
 fn mark_where<F: Fn(&[u8]) -> bool>(text: &[u8], mark: u8, passes: F) -> Option<usize>
     requires { F.IsAlwaysCallable passes }
     ensures at { IfSome result (λ at. IsMarkAt mark text.now at) }

@@ -1,4 +1,4 @@
-//! The parts of a text.
+//! The parts of a text between its marks, and copies of texts.
 ghost use Rattle.std.specs.Prelude.{◌≡◌, ◌==◌, ◌<◌, IfOk, map};
 ghost use Rattle.std.specs.String.{string_bytes};
 ghost use Rattle.text_parts.specs.Cuts.{now_all, CutsAtEach};
@@ -14,7 +14,8 @@ pub fn split_at(alloc: Global, text: &str, mark: char) -> Result<Vec<&str>, Allo
     text.split(mark).collect(alloc)
 }
 
-/// A copy of each of these texts, in the same order. It fails only if memory runs out.
+/// A copy of each of these texts, as the parts of a text, in the same order. It fails only if memory runs
+/// out.
 pub fn copies_of(alloc: Global, texts: &[&str]) -> Result<Vec<String>, AllocError>
     ensures { IfOk result (λ copies. map string_bytes copies.items ≡ now_all texts.now) }
 {
@@ -25,7 +26,7 @@ pub fn copies_of(alloc: Global, texts: &[&str]) -> Result<Vec<String>, AllocErro
     Ok(copies)
 }
 
-/// The same texts once more, in the same order. It fails only if memory runs out.
+/// A copy of a list of texts, in the same order. It fails only if memory runs out.
 pub fn clones_of(alloc: Global, texts: &[String]) -> Result<Vec<String>, AllocError>
     ensures { IfOk result (λ clones. map string_bytes clones.items ≡ map string_bytes texts.now) }
 {

@@ -1,5 +1,5 @@
-//! What is spent, and how much one turn of a request does at most and of what that is made. Each of these numbers is
-//! written here alone.
+//! How much one turn of a request does at most, of what that is made, and what a turn spends. Each of these
+//! numbers is written here alone.
 #![tactic(auto)]
 
 ghost use Rattle.std.specs.Prelude.{◌≡◌};
@@ -25,7 +25,8 @@ pub const TURN_UNITS: u64 = 1_000;
 /// does.
 pub const MOST_SPENT: u64 = TURN_UNITS + UNITS;
 
-/// One look checks at most 1,028 answers, and one turn spends at most 51,000 units and checked answers.
+/// One look at kept evaluations checks at most 1,028 answers, and one turn spends at most 51,000 units and
+/// checked answers.
 pub fn turn_amounts()
     ensures checks { MOST_CHECKS ≡ 1028 }
     ensures spent { MOST_SPENT ≡ 51000 }

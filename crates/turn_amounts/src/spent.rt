@@ -1,4 +1,4 @@
-//! What is spent: units, and checked answers.
+//! What is spent in turns: units, and checked answers.
 ghost use Rattle.std.specs.Prelude.{◌≡◌, ◌≤◌, ◌+◌, ◌-◌, true, false};
 ghost use Rattle.turn_amounts.specs.Spent.{IsUpFrom, no_spending, spent_in_all, spent_together, total_of};
 
@@ -12,7 +12,7 @@ pub struct Spent {
 }
 
 impl Spent {
-    /// Nothing was spent.
+    /// The amounts of a turn in which nothing was spent: no unit, and no checked answer.
     pub fn nothing() -> Spent
         ensures { result ≡ no_spending }
     {
@@ -22,7 +22,7 @@ impl Spent {
         }
     }
 
-    /// Whether nothing was spent.
+    /// Whether nothing was spent: no unit, and no checked answer.
     pub fn is_nothing(self) -> bool
         ensures nothing { result ≡ true → self ≡ no_spending }
         ensures some { result ≡ false → 1 ≤ total_of self }
@@ -30,7 +30,7 @@ impl Spent {
         self.units == 0 && self.checks == 0
     }
 
-    /// This was spent, and more.
+    /// The units and checked answers that were spent, with more that was spent after that.
     pub fn and(self, more: Spent) -> Spent
         ensures { result ≡ spent_together self more }
     {
@@ -41,7 +41,7 @@ impl Spent {
     }
 }
 
-/// What was spent in a turn, before which and after which so much was spent in all.
+/// What was spent in a turn, in units and checked answers, by what was spent in all before it and after it.
 pub fn spent_since(before: Spent, after: Spent) -> Spent
     requires { IsUpFrom before after }
     ensures { spent_in_all before result ≡ after }
@@ -52,8 +52,8 @@ pub fn spent_since(before: Spent, after: Spent) -> Spent
     }
 }
 
-/// What is left of so many units of a turn, before which and after which so much was spent in all. Each checked answer
-/// counts as a unit.
+/// What is left of so many units of a turn, by what was spent in all before it and after it. Each checked
+/// answer counts as a unit.
 pub fn left_of(units: u64, before: Spent, after: Spent) -> u64
     requires { IsUpFrom before after }
     ensures { result ≡ units - ((after.units - before.units) + (after.checks - before.checks)) }
