@@ -1,7 +1,7 @@
 //! The header of `.for`, read into the iterations of its loop.
-ghost use Rattle.std.specs.Prelude.{◌≡◌, ◌<◌, length, IfOk};
+ghost use Rattle.std.specs.Prelude.{◌<◌, length, IfOk};
 ghost use Rattle.mk_base.specs.Meter.{IsLater};
-ghost use Rattle.mk_loop.specs.Scopes.{iterations_in, GivesIterations};
+ghost use Rattle.mk_loop.specs.Scopes.{GivesIterations};
 ghost use Rattle.mk_loop.specs.Header.{ReadsForm};
 
 use crate::iterations::Iterations;
@@ -9,15 +9,6 @@ use mk_base::{Budget, FaultKind, PureStop};
 use mk_env::{Env, expand};
 use mk_text::words;
 use std::alloc::Global;
-
-impl Iterations {
-    /// How many iterations the header of a loop gives: its words, divided by its variables.
-    pub fn count(&self) -> usize
-        ensures { result ≡ length (iterations_in self.now) }
-    {
-        self.words.len() / self.names.len()
-    }
-}
 
 /// The iterations of the loop whose `.for` is followed by this text: `VARIABLES in WORDS` (make(1),
 /// "FOR LOOPS"). The first word `in` ends the variables. What follows it is expanded and split into
