@@ -1,4 +1,4 @@
-//! One evaluation that is asked for.
+//! One evaluation that is asked for, from the cache's look to its end, turn by turn.
 ghost use Rattle.std.specs.Prelude.{◌≡◌, ◌≤◌, IfOk, IfErr, OnErr};
 ghost use Rattle.mk_eval.specs.Agreement.{cost_of};
 ghost use Rattle.mk_eval.specs.Views.{flavors_in};
@@ -33,8 +33,8 @@ pub struct Asked {
 }
 
 impl Asked {
-    /// What was spent on what is made of the evaluation, if it costs so many units together with the evaluation:
-    /// all of these units, less those that were saved since the evaluation was kept.
+    /// What was spent on an evaluation that was asked for and on what is made of it, if both cost so many
+    /// units together. It is all of these units, less those that were saved since the evaluation was kept.
     pub fn spent_on(&self, cost: u64) -> Spent
         ensures { result ≡ spent_less_saved self.now cost }
     {
@@ -118,8 +118,8 @@ impl Ask {
         }
     }
 
-    /// Goes on with the same evaluation until so many units more are spent, or it is at its end. Before the last
-    /// thing that is done, fewer are spent.
+    /// Goes on with the evaluation that is asked for until so many units more are spent, or it is at its end.
+    /// Before the last thing that is done, fewer are spent.
     ///
     /// # Errors
     ///
@@ -149,8 +149,8 @@ impl Ask {
         Ok(looked.come_to(alloc, cache, files.take_trace(), turned)?)
     }
 
-    /// What was spent on it so far: units on lines, and answers checked before it began. The units aren't more
-    /// than the whole evaluation costs.
+    /// What was spent so far on the evaluation that is asked for: units on lines, and answers checked before
+    /// it began. The units aren't more than the whole evaluation costs.
     pub fn spent(&self) -> Spent
         ensures is { result ≡ spent_so_far self.now }
         ensures within { (files : FileMap) → IsAskIn files self.now
@@ -164,9 +164,10 @@ impl Ask {
 }
 
 impl AskTurned {
-    /// Goes on until so many units more are spent, or the evaluation is at its end. Before the last thing that is done,
-    /// fewer are spent. If it is at its end already, or no units are given, nothing is done. So a new evaluation has told
-    /// all that it costs at its end, and one that was kept tells none of that.
+    /// Goes on with an evaluation that is asked for until so many units more are spent, or it is at its end.
+    /// Before the last thing that is done, fewer are spent. If it is at its end already, or no units are
+    /// given, nothing is done. So a new evaluation has told all that it costs at its end, and one that was
+    /// kept tells none of that.
     ///
     /// # Errors
     ///
@@ -191,8 +192,8 @@ impl AskTurned {
         }
     }
 
-    /// What was spent on it so far: units on lines, and answers checked before it began. The units aren't more
-    /// than the whole evaluation costs.
+    /// What was spent so far on the evaluation that was asked for: units on lines, and answers checked before
+    /// it began. The units aren't more than the whole evaluation costs.
     pub fn spent(&self) -> Spent
         ensures is { result ≡ spent_in self.now }
         ensures within { (files : FileMap) (key : Key) → HasComeTo files key self.now
@@ -209,7 +210,8 @@ impl AskTurned {
 }
 
 impl Looked {
-    /// What the evaluation has come to, after all that it has asked so far. If it is at its end, it is kept.
+    /// What the evaluation that is asked for has come to, after all that it has asked so far. If it is at its
+    /// end, it is kept in the cache.
     fn come_to(
         self,
         alloc: Global,
@@ -243,7 +245,7 @@ impl Looked {
     }
 }
 
-/// Keeps an evaluation, if it can be shared once more.
+/// Keeps an evaluation that was asked for in the cache, if it can be shared once more.
 fn keep(cache: &mut EvalCache, key: EvalKey, evaluation: &Rc<Evaluation>)
     requires { IsRight (key_of key) evaluation.now.value }
     ensures counts { cache.new.counts ≡ cache.old.counts }

@@ -1,4 +1,4 @@
-//! The paths beside the listed ones on which the index depends.
+//! The paths beside the listed ones on which the index depends: those with flavors that items name.
 ghost use Rattle.index_keep.specs.Right.{LeavesAskedFiles};
 ghost use Rattle.index_keep.specs.WalkFacts.{AddsThere, FindsBeside, TellsThere};
 
@@ -10,9 +10,9 @@ use read_trace::Recorder;
 use std::alloc::Global;
 use text_parts::put_in_order;
 
-/// The paths with flavors that have a makefile and that items of ports at listed paths name, by the rows of these: in the
-/// order of their bytes, each once. Any other path with a makefile is a directory, and so is listed. It fails if the files
-/// fail, or if memory runs out.
+/// The paths beside the listed ones: those with flavors that have a makefile and that items of ports at
+/// listed paths name, by the rows of these. They are in the order of their bytes, each once. Any other path
+/// with a makefile is a directory, and so is listed. It fails if the files fail, or if memory runs out.
 pub(crate) fn paths_beside<F: Files + Drop>(
     alloc: Global,
     files: &mut Recorder<F>,
@@ -33,7 +33,7 @@ pub(crate) fn paths_beside<F: Files + Drop>(
     Ok(beside)
 }
 
-/// Adds those of these paths that have a row or a makefile.
+/// Adds those of these paths beside the listed ones that have a row or a makefile.
 fn add_there<F: Files + Drop>(
     alloc: Global,
     files: &mut Recorder<F>,
@@ -53,7 +53,7 @@ fn add_there<F: Files + Drop>(
     Ok(())
 }
 
-/// Whether a path has a row or a makefile.
+/// Whether a path beside the listed ones has a row or a makefile.
 fn is_there<F: Files + Drop>(
     alloc: Global,
     files: &mut Recorder<F>,

@@ -1,4 +1,4 @@
-//! The keeper of one tenant's index.
+//! The keeper of one tenant's index: what is noted of changes, and what of the index is in memory.
 ghost use Rattle.std.specs.Prelude.{◌≡◌, ℕ, List, OnOk, OnErr};
 ghost use Rattle.mk_paths.specs.World.{World};
 ghost use Rattle.port_index.specs.Known.{IsIndexOf};
@@ -65,7 +65,7 @@ pub struct Keeper<R: PathRows + Drop> {
 }
 
 impl<R: PathRows + Drop> Keeper<R> {
-    /// A keeper over rows, of which there are none yet.
+    /// A keeper of an index over rows, of which there are none yet.
     pub fn new(alloc: Global, rows: R) -> Keeper<R>
         requires { (path : List ℕ) → R.entries rows path ≡ None }
         ensures { (world : World) → IsKept R.entries world result }
@@ -76,9 +76,10 @@ impl<R: PathRows + Drop> Keeper<R> {
         }
     }
 
-    /// Notes that the file of this name is about to change, or to appear, or to go. The rows that asked for
-    /// the name are stale from now on, and no other row changes. So the rows are right in the world before
-    /// the change and in the one after it. Whether the file is there before the change, or may not be, is told with it.
+    /// Notes that the file of this name is about to change, or to appear, or to go. The rows of the index
+    /// that asked for the name are stale from now on, and no other row changes. So the rows are right in the
+    /// world before the change and in the one after it. Whether the file is there before the change, or may
+    /// not be, is told with it.
     ///
     /// It fails if the rows fail, or if memory runs out. Then no row changes.
     pub fn note_change(
@@ -105,7 +106,7 @@ impl<R: PathRows + Drop> Keeper<R> {
         Ok(())
     }
 
-    /// Notes that the search path is about to change. All rows are stale from now on.
+    /// Notes that the search path is about to change. All rows of the index are stale from now on.
     ///
     /// It fails if the rows fail. Then no row changes.
     pub fn note_path(&mut self, alloc: Global) -> Result<(), FilesFault>
@@ -121,7 +122,7 @@ impl<R: PathRows + Drop> Keeper<R> {
         Ok(())
     }
 
-    /// The index that a refresh has found, which is at hand once the refresh is done.
+    /// The keeper's index, which a refresh has found, and which is at hand once the refresh is done.
     pub fn index(&self) -> &KnownIndex
         requires { IsDone self.now }
         ensures { (world : World) → IsKept R.entries world self.now → IsIndexOf world result.now }
@@ -132,8 +133,8 @@ impl<R: PathRows + Drop> Keeper<R> {
         index
     }
 
-    /// Makes the dependencies of the index, if it is at hand, and keeps them with it, until files change or it is put away.
-    /// If memory runs out, nothing changes.
+    /// Makes the edges of the keeper's index, if it is at hand, and keeps them with it, until files change or
+    /// it is put away. If memory runs out, nothing changes.
     pub fn keep_edges(&mut self, alloc: Global) -> Result<(), AllocError>
         ensures edges { OnOk result (HasEdges self.new.progress) }
         ensures refresh { refresh_of R.entries self.new ≡ refresh_of R.entries self.old }
@@ -150,7 +151,7 @@ impl<R: PathRows + Drop> Keeper<R> {
         }
     }
 
-    /// How many bytes the rows of the index have, if it is at hand.
+    /// How many bytes the rows of the keeper's index have, if it is at hand.
     pub fn size_at_hand(&self) -> Option<u64>
         ensures { result ≡ size_at_hand self.now }
     {
@@ -163,8 +164,8 @@ impl<R: PathRows + Drop> Keeper<R> {
         }
     }
 
-    /// Drops from memory what the rows say, unless a refresh is under way. Nothing else changes. The next turn of a
-    /// refresh reads the rows again.
+    /// Puts the keeper's index away: what the rows say is dropped from memory, unless a refresh is under way.
+    /// Nothing else changes. The next turn of a refresh reads the rows again.
     pub fn put_away(&mut self, alloc: Global)
         ensures rows { KeepsShown R.entries self.old self.new }
         ensures begun { begun_in self.new.progress ≡ begun_in self.old.progress }
@@ -179,8 +180,8 @@ impl<R: PathRows + Drop> Keeper<R> {
         }
     }
 
-    /// Limits the steps of each later statement of the rows; with `None` they are no longer limited. No row
-    /// changes.
+    /// Limits the steps of each later statement on the keeper's rows; with `None` they are no longer limited.
+    /// No row changes.
     pub fn limit_steps(&mut self, limit: Option<u64>)
         ensures rows { KeepsShown R.entries self.old self.new }
         ensures begun { begun_in self.new.progress ≡ begun_in self.old.progress }
@@ -190,8 +191,8 @@ impl<R: PathRows + Drop> Keeper<R> {
         self.rows.limit_steps(limit);
     }
 
-    /// Stops a refresh that is under way: its walk and an evaluation that was begun are dropped. All rows stay, and
-    /// names that have changed stay noted.
+    /// Stops the keeper's refresh, if one is under way: its walk and an evaluation that was begun are
+    /// dropped. All rows stay, and names that have changed stay noted.
     pub fn stop(&mut self, alloc: Global)
         ensures rows { KeepsShown R.entries self.old self.new }
         ensures begun { begun_in self.new.progress ≡ no_spending }
@@ -201,7 +202,7 @@ impl<R: PathRows + Drop> Keeper<R> {
         self.progress.halt(alloc);
     }
 
-    /// Whether no more names are to be kept.
+    /// Whether the keeper has noted as many changed names as it keeps.
     fn is_full(&self) -> bool {
         match &self.progress {
             Progress::Changed(names, _) => names.len() >= MOST_CHANGED,
@@ -212,7 +213,7 @@ impl<R: PathRows + Drop> Keeper<R> {
         }
     }
 
-    /// Marks the rows that asked for names that have changed, and forgets these names.
+    /// Marks as stale the rows that asked for names that have changed, and forgets these names.
     fn write_marks(&mut self, alloc: Global) -> Result<(), FilesFault>
         ensures rows { KeepsShown R.entries self.old self.new }
         ensures progress { Stops self.old.progress self.new.progress }
@@ -227,14 +228,14 @@ impl<R: PathRows + Drop> Keeper<R> {
 }
 
 impl Progress {
-    /// No name has changed.
+    /// The keeper's progress if no changed name is noted, no refresh is under way, and no index is in memory.
     pub(crate) fn nothing(alloc: Global) -> Progress
         ensures { HasForgotten result }
     {
         Progress::Changed(BTreeSet::new(alloc), None)
     }
 
-    /// A refresh that is under way is dropped.
+    /// Drops the refresh of the keeper's index, if one is under way.
     fn halt(&mut self, alloc: Global)
         ensures { Halts self.old self.new }
     {
@@ -244,8 +245,9 @@ impl Progress {
         }
     }
 
-    /// The file of this name has changed too, and may have been there before. A refresh that is under way is dropped. An
-    /// index at hand stays in memory. If memory runs out, nothing changes.
+    /// Notes in the keeper's progress that the file of this name has changed too, and may have been there
+    /// before. A refresh that is under way is dropped. An index at hand stays in memory. If memory runs out,
+    /// nothing changes.
     fn add_change(&mut self, alloc: Global, name: String, is_there: bool) -> Result<(), AllocError>
         ensures changed { OnOk result (AddsChanged name self.old self.new) }
         ensures dropped { OnOk result (DropsForChange name is_there self.old self.new) }
@@ -266,7 +268,8 @@ impl Progress {
         Ok(())
     }
 
-    /// The index that is in memory, after a change of which it is told whether the file stays there.
+    /// The index that the keeper has in memory, after a change of a file of which it is told whether the file
+    /// stays there.
     fn into_held(self, stays: bool) -> Option<HeldIndex>
         ensures { result ≡ last_in stays self }
     {
@@ -287,7 +290,7 @@ impl Progress {
     }
 }
 
-/// Whether a file is there before a change, or is no makefile.
+/// Whether a file that the keeper is told of is there before its change, or is no makefile.
 fn stays_there(name: &str, is_there: bool) -> bool
     ensures { result ≡ the_keeper.stays_there name.now is_there }
 {

@@ -1,4 +1,4 @@
-//! The turns of a refresh.
+//! The turns of a keeper's refresh: each renews a row of the index, or ends the refresh.
 ghost use Rattle.std.specs.Prelude.{◌≡◌, string_bytes, OnOk, OnErr};
 ghost use Rattle.read_trace.specs.Recorder.{view_of};
 ghost use Rattle.eval_cache.specs.CacheUse.{UsesCache};
@@ -59,13 +59,14 @@ pub(crate) struct WritingAsk {
 }
 
 impl<R: PathRows + Drop> Keeper<R> {
-    /// Goes on with a refresh, or begins one, up to the next path that has no fresh row. That path is evaluated in
-    /// these files under these settings, until so many units are spent. Each answer that is checked counts as one
-    /// of them. The evaluation is one that the cache keeps, if the files agree with it. If it is at its end and fewer
-    /// units are spent in this turn, the path's row is made and written; otherwise the next turn goes on there. Once
-    /// each path has its row, the rows that nothing needs are taken out, and the refresh is done: the index is at hand.
-    /// If it was put away, and nothing has changed, a turn reads the rows again. Before the last thing that a turn does, it
-    /// has spent fewer than its units, and so it spends at most 50,000 more.
+    /// Takes a turn of a refresh: goes on with it, or begins one, up to the next path that has no fresh row.
+    /// That path is evaluated in these files under these settings, until so many units are spent. Each answer
+    /// that is checked counts as one of them. The evaluation is one that the cache keeps, if the files agree
+    /// with it. If it is at its end and fewer units are spent in this turn, the path's row is made and
+    /// written; otherwise the next turn goes on there. Once each path has its row, the rows that nothing
+    /// needs are taken out, and the refresh is done: the index is at hand. If it was put away, and nothing
+    /// has changed, a turn reads the rows again. Before the last thing that a turn does, it has spent fewer
+    /// than its units, and so it spends at most 50,000 more.
     ///
     /// # Errors
     ///
@@ -110,7 +111,8 @@ impl<R: PathRows + Drop> Keeper<R> {
         }
     }
 
-    /// Goes on with a walk that was taken out of the keeper: to its next path that has no fresh row, or to its end.
+    /// Goes on with a refresh's walk, which was taken out of the keeper: to its next path that has no fresh
+    /// row, or to its end.
     fn walk_on<F: Listing + Drop>(
         &mut self,
         alloc: Global,
@@ -142,7 +144,7 @@ impl<R: PathRows + Drop> Keeper<R> {
         }
     }
 
-    /// Goes on with the evaluation of a path and with its walk, which were taken out of the keeper.
+    /// Goes on with the evaluation of a path on a refresh's walk; both were taken out of the keeper.
     fn ask_on<F: Listing + Drop>(
         &mut self,
         alloc: Global,
@@ -165,8 +167,8 @@ impl<R: PathRows + Drop> Keeper<R> {
         self.settle(alloc, writing, before, turned)
     }
 
-    /// Writes the row of a path, if it is made, or keeps its evaluation for the next turn. So much was spent on it
-    /// before this turn.
+    /// Ends a turn of a refresh: the row of the path is written, if it is made, or its evaluation is kept for
+    /// the next turn. So much was spent on the path before this turn.
     fn settle(
         &mut self,
         alloc: Global,
@@ -196,7 +198,7 @@ impl<R: PathRows + Drop> Keeper<R> {
         }
     }
 
-    /// Ends a refresh: takes out the rows that nothing needs, and keeps at hand what the others say.
+    /// Ends a refresh: takes out the rows that nothing needs, and keeps the index of the others at hand.
     fn end(&mut self, alloc: Global, last: LastStage) -> Result<(), FilesFault>
         ensures ends { EndsWalk R.entries last self.old self.new result }
         ensures kept { KeepsAtEnd R.entries last self.old self.new result }
@@ -222,8 +224,8 @@ impl<R: PathRows + Drop> Keeper<R> {
         Ok(())
     }
 
-    /// Reads what the rows say, all of which are right; the index's paths were taken out of the keeper. If that fails,
-    /// they are put back.
+    /// Reads the rows into memory again after the index was put away, all of which are right; the index's
+    /// paths were taken out of the keeper. If that fails, they are put back.
     fn read_index(&mut self, alloc: Global, paths: IndexPaths) -> Result<(), FilesFault>
         ensures rows { ShowsSame (shown_in R.entries self.old.rows) (keeper_rows R.entries self.new) }
         ensures begun { begun_in self.new.progress ≡ no_spending }
@@ -247,8 +249,8 @@ impl<R: PathRows + Drop> Keeper<R> {
         }
     }
 
-    /// The walk with which a refresh begins after files of these names have changed, by the index before that, if it is
-    /// in memory. If that fails, the names are kept.
+    /// The walk with which a keeper's refresh begins after files of these names have changed, by the index
+    /// before that, if it is in memory. If that fails, the names are kept.
     fn begun<F: Listing + Drop>(
         &mut self,
         alloc: Global,
@@ -275,8 +277,8 @@ impl<R: PathRows + Drop> Keeper<R> {
     }
 }
 
-/// Gives a path this row, which is fresh and is written with this profile, and tells the walk of it. If it fails, all
-/// rows are as they were.
+/// Writes the row of a path that a turn of a refresh has made, fresh and with this profile, and tells the
+/// walk of it. If it fails, all rows are as they were.
 fn put_row<R: PathRows>(
     alloc: Global,
     rows: &mut R,

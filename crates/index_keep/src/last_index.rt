@@ -1,4 +1,4 @@
-//! The index before files changed, whose lists are kept while no row names other paths.
+//! The last index, that before files changed: its lists are kept while no renewed row names other paths.
 ghost use Rattle.std.specs.Prelude.{◌≡◌, true, IfSome};
 ghost use Rattle.port_index.specs.Seen.{row_seen};
 ghost use Rattle.index_keep.specs.Last.{NamesAsBefore};
@@ -6,7 +6,7 @@ ghost use Rattle.index_keep.specs.StartFacts.{KeepsIfAlike, KeepsListsIfAlike};
 
 use port_index::{KnownIndex, MemoryRows, Row, name_alike};
 
-/// The index that was at hand before files changed.
+/// The last index, which was at hand before files changed.
 #[derive(Drop)]
 pub(crate) struct HeldIndex {
     pub(crate) index: KnownIndex,
@@ -14,14 +14,14 @@ pub(crate) struct HeldIndex {
     pub(crate) were_there: bool,
 }
 
-/// The outdated rows of that index, and their paths.
+/// The outdated rows of the last index, and their paths.
 #[derive(Debug, Drop)]
 pub(crate) struct LastIndex {
     pub(crate) outdated: MemoryRows,
     pub(crate) paths: Vec<String>,
 }
 
-/// The same, with its listed paths.
+/// The outdated rows of the last index, with the index's listed paths.
 #[derive(Debug, Drop)]
 pub(crate) struct LastLists {
     pub(crate) listed: Vec<String>,
@@ -29,7 +29,7 @@ pub(crate) struct LastLists {
 }
 
 impl LastIndex {
-    /// Whether this path has an outdated row, which names the same paths as this row.
+    /// Whether the last index has an outdated row of this path that names the same paths as this new row.
     fn names_alike(&self, path: &str, row: &Row) -> bool
         ensures { result ≡ true → NamesAsBefore path.now (row_seen row.now) self.now }
     {
@@ -40,7 +40,7 @@ impl LastIndex {
     }
 }
 
-/// The index of before, if the outdated row of this path names the same paths as this row.
+/// The last index, if its outdated row of this path names the same paths as this new row.
 pub(crate) fn if_alike(last: Option<LastIndex>, path: &str, row: &Row) -> Option<LastIndex>
     ensures { IfSome result (KeepsIfAlike last path.now row.now) }
 {
@@ -52,7 +52,7 @@ pub(crate) fn if_alike(last: Option<LastIndex>, path: &str, row: &Row) -> Option
     }
 }
 
-/// Its lists, if the outdated row of this path names the same paths as this row.
+/// The lists of the last index, if its outdated row of this path names the same paths as this new row.
 pub(crate) fn lists_if_alike(lists: Option<LastLists>, path: &str, row: &Row) -> Option<LastLists>
     ensures { IfSome result (KeepsListsIfAlike lists path.now row.now) }
 {

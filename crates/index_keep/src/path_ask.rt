@@ -1,4 +1,4 @@
-//! The row of a path, made by evaluating its makefile turn by turn, with what was asked for it.
+//! The row of a path, made by evaluating the path's makefile turn by turn, with what was asked for it.
 ghost use Rattle.std.specs.Prelude.{◌≡◌, map, string_bytes, IfOk, OnOk};
 ghost use Rattle.mk_eval.specs.Agreement.{Agrees};
 ghost use Rattle.eval_cache.specs.CacheUse.{UsesCache};
@@ -97,8 +97,9 @@ impl PathAsk {
         PathAsk { found, ask }.go_on(alloc, cache, files, Spent::nothing(), units)
     }
 
-    /// Goes on with the makefile's evaluation until so many units more are spent, or it is at its end. Then the row
-    /// is made, if fewer are spent. It fails if the files fail, or if memory runs out.
+    /// Goes on with the evaluation of the makefile of a path that gets its row, until so many units more are
+    /// spent, or it is at its end. Then the row is made, if fewer are spent. It fails if the files fail, or
+    /// if memory runs out.
     pub(crate) fn turn<F: Files + Drop>(
         self,
         alloc: Global,
@@ -116,7 +117,8 @@ impl PathAsk {
         self.go_on(alloc, cache, files, before, units)
     }
 
-    /// The same in a turn before which so much was spent on the path.
+    /// Goes on with the evaluation of the makefile of a path that gets its row, in a turn before which so
+    /// much was spent on the path.
     fn go_on<F: Files + Drop>(
         self,
         alloc: Global,
@@ -145,7 +147,7 @@ impl PathAsk {
         }
     }
 
-    /// What was spent on it so far. The units aren't more than the path costs.
+    /// What was spent so far on the path that gets its row. The units aren't more than the path costs.
     pub(crate) fn spent(&self) -> Spent
         ensures is { result ≡ spent_in self.now.ask }
         ensures within { IsWithinCost self.now result }
@@ -155,7 +157,8 @@ impl PathAsk {
 }
 
 impl NamedDirectory {
-    /// The directory that a path names, if it names one. It fails only if memory runs out.
+    /// The directory that a path names of which a row is made, if it names one. It fails only if memory runs
+    /// out.
     fn read(alloc: Global, path: &str) -> Result<Option<NamedDirectory>, AllocError>
         ensures { IfOk result (IsNamed path.now) }
     {
@@ -168,7 +171,7 @@ impl NamedDirectory {
         }
     }
 
-    /// The directory.
+    /// The directory that a path names of which a row is made.
     fn directory(&self) -> &str
         ensures { result.now ≡ paths.directory_named self.now }
     {
@@ -178,7 +181,7 @@ impl NamedDirectory {
         }
     }
 
-    /// The flavors with which its makefile is evaluated, if any are given.
+    /// The flavors with which the makefile of a path is evaluated, if the path gives any.
     fn flavors(&self) -> Option<&[String]>
         ensures { LendsFlavors self.now result }
     {
@@ -190,8 +193,8 @@ impl NamedDirectory {
 }
 
 impl FoundPath {
-    /// The makefile of a path in these files under these settings, if it is there. It fails if the files fail, or if
-    /// memory runs out.
+    /// The makefile of a path of which a row is made, in these files under these settings, if it is there. It
+    /// fails if the files fail, or if memory runs out.
     pub(crate) fn find<F: Files + Drop>(
         alloc: Global,
         files: &mut Recorder<F>,
@@ -216,7 +219,7 @@ impl FoundPath {
         }))
     }
 
-    /// The row of the path, once its makefile is evaluated.
+    /// The row of the path, made of its makefile's evaluation, with the names that were asked for.
     fn made(self, alloc: Global, asked: &Asked) -> Result<MadeRow, AllocError>
         ensures path { IfOk result (λ made. string_bytes made.path ≡ string_bytes self.path) }
         ensures row { IfOk result (λ made. kept_row_seen made.row ≡ paths.row_made self asked.now) }
@@ -243,8 +246,8 @@ impl FoundPath {
     }
 }
 
-/// The makefile of a directory, if it is there, and what was asked to find it. It fails if the files fail, or if
-/// memory runs out.
+/// The makefile in the directory of a path, if it is there, and what was asked to find it. It fails if the
+/// files fail, or if memory runs out.
 fn place_of<F: Files + Drop>(
     alloc: Global,
     files: &mut Recorder<F>,
@@ -261,7 +264,7 @@ fn place_of<F: Files + Drop>(
     Ok((found, files.take_trace()))
 }
 
-/// The names of the files that questions are about, in order.
+/// The names of the files for which a row asked: those that questions are about, in order.
 fn names_of(alloc: Global, questions: &[Question]) -> Result<Vec<String>, AllocError>
     ensures { IfOk result (λ names. map string_bytes names.items ≡ names_in questions.now) }
 {
@@ -270,7 +273,8 @@ fn names_of(alloc: Global, questions: &[Question]) -> Result<Vec<String>, AllocE
     Ok(names)
 }
 
-/// Adds the names of the files that questions are about, in order, to other names.
+/// Adds the names of the files for which a row asked, those that questions are about, in order, to other
+/// names.
 fn add_names(
     alloc: Global,
     names: &mut Vec<String>,

@@ -1,4 +1,4 @@
-//! What a refresh begins with: the rows that are fresh.
+//! The start of a refresh: which stored rows are fresh, and which have to be marked as stale.
 ghost use Rattle.std.specs.Prelude.{◌≡◌, IfOk, OnOk, OnErr};
 ghost use Rattle.port_index.specs.Seen.{known_seen};
 ghost use Rattle.index_store.specs.Entries.{SameRows, SameProfiles};
@@ -28,8 +28,9 @@ pub(crate) enum Judged {
     Unusable,
 }
 
-/// The rows that are fresh after files of these names have changed. The rows that asked for them are
-/// marked, so that the names need no longer be known. If it fails, nothing is marked.
+/// The rows with which a refresh starts: those that are fresh after files of these names have changed. The
+/// rows that asked for them are marked, so that the names need no longer be known. If it fails, nothing is
+/// marked.
 pub(crate) fn begin<R: PathRows>(
     alloc: Global,
     rows: &mut R,
@@ -46,7 +47,7 @@ pub(crate) fn begin<R: PathRows>(
     Ok(known)
 }
 
-/// What a refresh begins with over the index of before.
+/// What a refresh starts with over the index of before.
 #[derive(Drop)]
 pub(crate) struct Begun {
     /// The rows that are fresh.
@@ -57,8 +58,8 @@ pub(crate) struct Begun {
     pub(crate) lists: LastLists,
 }
 
-/// What a refresh begins with by what all rows said before files of these names changed. It fails only if memory runs
-/// out.
+/// What a refresh starts with by what all rows said before files of these names changed. It fails only if
+/// memory runs out.
 pub(crate) fn begin_over(
     alloc: Global,
     last: KnownIndex,
@@ -91,13 +92,14 @@ pub(crate) fn begin_over(
     })
 }
 
-/// Rows in two parts.
+/// The rows of an index in two parts, the fresh ones and the outdated ones.
 struct Parted {
     left: MemoryRows,
     taken: MemoryRows,
 }
 
-/// The rows that are left without those of these paths, and those of them.
+/// Rows in two parts at the start of a refresh: those that are left without those of these paths, and those
+/// of them.
 fn part(alloc: Global, known: MemoryRows, paths: &[String]) -> Result<Parted, AllocError>
     ensures left { IfOk result (λ parted. LeavesOut paths.now known parted.left) }
     ensures taken { IfOk result (λ parted. TakesOnly paths.now known parted.taken) }
@@ -112,7 +114,7 @@ fn part(alloc: Global, known: MemoryRows, paths: &[String]) -> Result<Parted, Al
     Ok(Parted { left, taken })
 }
 
-/// Rows without those of these paths.
+/// The rows in memory that are left without those of these paths.
 pub(crate) fn without(known: MemoryRows, paths: &[String]) -> MemoryRows
     ensures { LeavesOut paths.now known result }
 {
@@ -123,7 +125,7 @@ pub(crate) fn without(known: MemoryRows, paths: &[String]) -> MemoryRows
     known
 }
 
-/// The rows that are fresh, if no name has changed since they were marked.
+/// The rows with which a refresh starts if no name has changed since rows were marked: those that are fresh.
 pub(crate) fn fresh_rows<R: PathRows>(alloc: Global, rows: &mut R) -> Result<MemoryRows, FilesFault>
     ensures known { IfOk result (Says (shown_in R.entries rows.old)) }
     ensures same { SameRows (R.entries rows.old) (R.entries rows.new) }
@@ -134,14 +136,16 @@ pub(crate) fn fresh_rows<R: PathRows>(alloc: Global, rows: &mut R) -> Result<Mem
     Ok(sort(alloc, stored, &changed)?.known)
 }
 
-/// Rows that are fresh, and paths of rows that have to be marked.
+/// Stored rows sorted at the start of a refresh: those that are fresh, and the paths of those that have to be
+/// marked.
 #[derive(Drop)]
 struct Sorted {
     known: MemoryRows,
     outdated: Vec<String>,
 }
 
-/// The fresh ones of these stored rows, and the paths of those that asked for a name that has changed.
+/// Sorts stored rows at the start of a refresh: the fresh ones, and the paths of those that asked for a name
+/// that has changed.
 fn sort(
     alloc: Global,
     stored: Vec<StoredRow>,
@@ -160,7 +164,7 @@ fn sort(
     Ok(sorted)
 }
 
-/// Adds one stored row to those that were sorted.
+/// Adds one stored row to those that were sorted at the start of a refresh.
 fn add(
     alloc: Global,
     sorted: &mut Sorted,
@@ -178,7 +182,8 @@ fn add(
     Ok(())
 }
 
-/// What a stored row is after files of these names have changed.
+/// What a stored row is at the start of a refresh, after files of these names have changed: fresh, asked for
+/// one of them, or stale.
 fn judge(
     alloc: Global,
     stored: &StoredRow,
@@ -195,7 +200,7 @@ fn judge(
     }
 }
 
-/// What a row of so many bytes that isn't marked is after files of these names have changed.
+/// What a row of so many bytes that isn't marked as stale is after files of these names have changed.
 fn judge_row(row: KeptRow, size: u64, changed: &BTreeSet<String>) -> Judged
     ensures { IsJudgedRow changed.now row result }
 {
@@ -205,7 +210,7 @@ fn judge_row(row: KeptRow, size: u64, changed: &BTreeSet<String>) -> Judged
     Judged::Fresh(known_row(row, size))
 }
 
-/// What is kept in memory of a row of so many bytes.
+/// The part of a stored row, of so many bytes, that a refresh knows in memory.
 pub(crate) fn known_row(row: KeptRow, size: u64) -> KnownRow
     ensures { known_seen result ≡ said_by (kept_row_seen row) }
 {

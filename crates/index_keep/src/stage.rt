@@ -20,7 +20,7 @@ pub(crate) struct Stage {
 }
 
 impl Stage {
-    /// A stage that begins.
+    /// A stage of a refresh that begins with these paths and these fresh rows.
     pub(crate) fn new(paths: Vec<String>, known: MemoryRows) -> Stage
         ensures { result ≡ record { paths = paths; place = 0; known = known } }
     {
@@ -31,8 +31,8 @@ impl Stage {
         }
     }
 
-    /// Goes on to the next path with a makefile that has no fresh row, if there is one, and gives the makefile. It fails if
-    /// the files fail, or if memory runs out.
+    /// Goes on in a refresh's stage to the next path with a makefile that has no fresh row, if there is one,
+    /// and gives the makefile. It fails if the files fail, or if memory runs out.
     pub(crate) fn pass<F: Files + Drop>(
         &mut self,
         alloc: Global,
@@ -51,7 +51,8 @@ impl Stage {
         }
     }
 
-    /// The next path with a makefile that has no fresh row, if there is one, with its place.
+    /// The next path of the stage with a makefile and without a fresh row, if there is one, with its place
+    /// among the stage's paths.
     fn lacking<F: Files + Drop>(
         &self,
         alloc: Global,
@@ -73,7 +74,7 @@ impl Stage {
         Ok(None)
     }
 
-    /// Knows of one more fresh row from now on. If memory runs out, nothing changes.
+    /// Tells the stage of one more fresh row. If memory runs out, nothing changes.
     pub(crate) fn know(&mut self, path: String, row: KnownRow) -> Result<(), AllocError>
         ensures { OnOk result (LearnsRow path row self.old self.new) }
     {
@@ -81,7 +82,7 @@ impl Stage {
     }
 }
 
-/// Those of these paths that have no row.
+/// Those of these paths of a stage that have no fresh row.
 pub(crate) fn lacking_among(
     alloc: Global,
     paths: &[String],
@@ -99,7 +100,7 @@ pub(crate) fn lacking_among(
     Ok(lacking)
 }
 
-/// Those of these paths that are among others, which are in the order of their bytes.
+/// Those of these paths of a stage that are among others, which are in the order of their bytes.
 pub(crate) fn found_among(
     alloc: Global,
     paths: &[String],

@@ -1,4 +1,4 @@
-//! The end of a refresh: rows that nothing needs are taken out.
+//! The rows that stay at the end of a refresh, and those that nothing needs, which are taken out.
 ghost use Rattle.std.specs.Prelude.{map, string_bytes, OnErr};
 ghost use Rattle.index_store.specs.Entries.{SameRows};
 ghost use Rattle.index_keep.specs.EndFacts.{GivesOthers, GivesOthersOf, KeepsStaying, LeavesNeeded};
@@ -12,8 +12,9 @@ use mk_paths::FilesFault;
 use port_index::{PathFinder, RowFinder};
 use std::alloc::{AllocError, Global};
 
-/// Takes out all rows but the fresh ones of needed paths, at the end of a walk, and gives the paths of the rows that it took
-/// out. If it is known that there are none, it doesn't look for them. If it fails, all rows stay.
+/// Takes out all rows but the fresh ones of needed paths, at the end of a refresh's walk, and gives the paths
+/// of the rows that it took out. If it is known that there are none, it doesn't look for them. If it fails,
+/// all rows stay.
 pub(crate) fn leave_needed<R: PathRows>(
     alloc: Global,
     rows: &mut R,
@@ -29,8 +30,8 @@ pub(crate) fn leave_needed<R: PathRows>(
     }
 }
 
-/// Takes out all rows but the fresh ones of needed paths, and gives the paths of the rows that it took out. If it fails, all
-/// rows stay.
+/// Takes out all rows but those that stay, the fresh ones of needed paths, and gives the paths of the rows
+/// that it took out. If it fails, all rows stay.
 fn take_out_others<R: PathRows>(
     alloc: Global,
     rows: &mut R,
@@ -50,7 +51,8 @@ fn take_out_others<R: PathRows>(
     Ok(others)
 }
 
-/// Those of these paths whose rows aren't fresh ones of needed paths.
+/// Those of these paths whose rows don't stay at the end of a refresh, since they aren't fresh ones of needed
+/// paths.
 fn others(
     alloc: Global,
     paths: Vec<String>,
@@ -69,7 +71,8 @@ fn others(
     Ok(others)
 }
 
-/// What finds out which rows stay at the end of a walk. For paths in the order of their bytes, all take one pass.
+/// A finder of the rows that stay at the end of a walk. For paths in the order of their bytes, all take one
+/// pass.
 #[derive(Drop)]
 struct StayingRows<'a> {
     listed: PathFinder<'a>,
@@ -78,7 +81,7 @@ struct StayingRows<'a> {
 }
 
 impl<'a> StayingRows<'a> {
-    /// The fresh rows of needed paths.
+    /// The rows that stay at the end of a walk: the fresh ones of needed paths.
     fn new(last: &'a LastStage, beside: &'a [String]) -> StayingRows<'a>
         ensures { FindsStaying last.now (map string_bytes beside.now) result }
     {
@@ -89,7 +92,7 @@ impl<'a> StayingRows<'a> {
         }
     }
 
-    /// Whether the row of a path is a fresh one of a needed path.
+    /// Whether the row of a path stays at the end of a walk: whether it is a fresh one of a needed path.
     fn has(&mut self, path: &str) -> bool
         ensures stays { TellsStaying path.now self.old result }
         ensures finder { KeepsStaying self.old self.new }

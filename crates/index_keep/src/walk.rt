@@ -1,4 +1,5 @@
-//! A refresh: the paths on which the index depends, one after another, until each has its row.
+//! The walk of a refresh through the paths on which the index depends, stage after stage, until each path has
+//! its row.
 ghost use Rattle.std.specs.Prelude.{string_bytes, OnOk, OnErr};
 ghost use Rattle.port_index.specs.Seen.{known_seen};
 ghost use Rattle.read_trace.specs.Recorder.{view_of};
@@ -119,8 +120,8 @@ pub(crate) fn begin_walk<F: Listing + Drop, R: PathRows>(
     }
 }
 
-/// The stage with which a walk begins over the index of before: over its directories if that serves, or else over those that
-/// are there.
+/// The stage of directories with which a refresh's walk begins over the index of before: over that index's
+/// directories if that serves, or else over those that are there.
 fn first_stage<F: Listing + Drop>(
     alloc: Global,
     files: &mut Recorder<F>,
@@ -137,7 +138,7 @@ fn first_stage<F: Listing + Drop>(
     Ok(other_stage(alloc, directories, begun)?)
 }
 
-/// The stage of the directories of before, whose lists may be kept.
+/// The stage of a walk over the directories of the index of before, whose lists may be kept.
 fn kept_stage(alloc: Global, begun: Begun) -> Result<DirectoryStage, AllocError>
     ensures { FollowsLast begun result }
 {
@@ -154,7 +155,7 @@ fn kept_stage(alloc: Global, begun: Begun) -> Result<DirectoryStage, AllocError>
     })
 }
 
-/// The stage of other directories.
+/// The stage of a walk over directories that aren't those of the index of before.
 fn other_stage(
     alloc: Global,
     directories: Vec<String>,
@@ -172,7 +173,8 @@ fn other_stage(
 }
 
 impl Walk {
-    /// Goes on to the next path with a makefile that has no fresh row. It fails if the files fail, or if memory runs out.
+    /// Goes on with a refresh's walk to the next path with a makefile that has no fresh row, or to its end.
+    /// It fails if the files fail, or if memory runs out.
     pub(crate) fn next<F: Files + Drop>(
         self,
         alloc: Global,
@@ -189,7 +191,7 @@ impl Walk {
         }
     }
 
-    /// The same walk, which knows of one more fresh row. It fails only if memory runs out.
+    /// The walk of a refresh, told of one more fresh row. It fails only if memory runs out.
     pub(crate) fn with_row(self, path: String, row: KnownRow) -> Result<Walk, AllocError>
         ensures { WalksWithRow (string_bytes path) (known_seen row) self result }
     {
@@ -234,6 +236,7 @@ impl Walk {
     }
 }
 
+/// Goes on with a walk in its stage of the directories, and then in that of the listed paths.
 fn next_directory<F: Files + Drop>(
     alloc: Global,
     files: &mut Recorder<F>,
@@ -251,7 +254,8 @@ fn next_directory<F: Files + Drop>(
     }
 }
 
-/// The stage of the listed paths, after that of the directories. The list of the index of before is kept, if it may be.
+/// The walk's stage of the listed paths, after that of the directories. The list of the index of before is
+/// kept, if it may be.
 fn listed_stage(alloc: Global, first: DirectoryStage) -> Result<ListedStage, AllocError>
     ensures { ComesToListed first result }
 {
@@ -286,6 +290,7 @@ fn listed_stage(alloc: Global, first: DirectoryStage) -> Result<ListedStage, All
     }
 }
 
+/// Goes on with a walk in its stage of the listed paths, and then in its last stage.
 fn next_listed<F: Files + Drop>(
     alloc: Global,
     files: &mut Recorder<F>,
@@ -306,7 +311,7 @@ fn next_listed<F: Files + Drop>(
     }
 }
 
-/// The stage of the paths beside the listed ones, after that of these.
+/// The walk's last stage, that of the paths beside the listed ones, after that of these.
 fn last_stage<F: Files + Drop>(
     alloc: Global,
     files: &mut Recorder<F>,
@@ -347,6 +352,7 @@ fn last_stage<F: Files + Drop>(
     }
 }
 
+/// Goes on with a walk in its last stage, that of the paths beside the listed ones, up to its end.
 fn next_needed<F: Files + Drop>(
     alloc: Global,
     files: &mut Recorder<F>,

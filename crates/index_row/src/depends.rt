@@ -1,4 +1,4 @@
-//! What ports depend on.
+//! The dependencies of a port in the bytes of a row: how they are written and read.
 ghost use Rattle.std.specs.Prelude.{◌≡◌, length, OnOk};
 ghost use Rattle.index_row.specs.Reads.{counted_items, list};
 ghost use Rattle.index_row.specs.Ports.{depend_number, depend_kind_of, depend_kind, depend};
@@ -11,7 +11,7 @@ use crate::unread::Unread;
 use port_rules::{Depend, DependKind};
 use std::alloc::{AllocError, Global};
 
-/// What a dependency of this number is for.
+/// The kind of a dependency that has this number in the bytes of a row.
 #[tactic(auto, unfolding(crate::specs::Ports::depend_kind_of))]
 fn kind_numbered(number: u8) -> Option<DependKind>
     ensures { result ≡ depend_kind_of number }
@@ -25,7 +25,7 @@ fn kind_numbered(number: u8) -> Option<DependKind>
     }
 }
 
-/// The number of what a dependency is for.
+/// The number of a dependency's kind in the bytes of a row.
 fn number_of(kind: DependKind) -> u8
     ensures { result ≡ depend_number kind }
 {
@@ -37,7 +37,7 @@ fn number_of(kind: DependKind) -> u8
     }
 }
 
-/// What a dependency is for.
+/// Reads the kind of a dependency from the bytes of a row.
 #[tactic(auto, unfolding(crate::specs::Ports::depend_kind))]
 fn read_kind(bytes: &[u8]) -> Result<(DependKind, &[u8]), Unread>
     ensures { Gives (λ x. (x.0, x.1.now)) result (depend_kind bytes.now) }
@@ -49,7 +49,7 @@ fn read_kind(bytes: &[u8]) -> Result<(DependKind, &[u8]), Unread>
     }
 }
 
-/// A dependency, which comes after that one.
+/// Reads a dependency from the bytes of a row, after the dependency before it, if there is one.
 #[tactic(auto, unfolding(crate::specs::Ports::depend))]
 fn read_depend<'b>(
     alloc: Global,
@@ -65,7 +65,7 @@ fn read_depend<'b>(
     Ok((depend, rest))
 }
 
-/// A list of dependencies.
+/// Reads a list of dependencies, its length first, from the bytes of a row.
 #[tactic(auto, unfolding(crate::specs::Reads::list))]
 pub(crate) fn read_depends(alloc: Global, bytes: &[u8]) -> Result<(Vec<Depend>, &[u8]), Unread>
     ensures { Gives (λ x. (x.0.items, x.1.now)) result (list depend bytes.now) }
@@ -74,7 +74,7 @@ pub(crate) fn read_depends(alloc: Global, bytes: &[u8]) -> Result<(Vec<Depend>, 
     depends_in(alloc, count, rest)
 }
 
-/// So many dependencies.
+/// Reads so many dependencies from the bytes of a row.
 fn depends_in(alloc: Global, count: u64, bytes: &[u8]) -> Result<(Vec<Depend>, &[u8]), Unread>
     ensures { Gives (λ x. (x.0.items, x.1.now)) result (counted_items depend count bytes.now) }
 {
@@ -88,14 +88,14 @@ fn depends_in(alloc: Global, count: u64, bytes: &[u8]) -> Result<(Vec<Depend>, &
     Ok((found, rest))
 }
 
-/// Adds what a dependency is for.
+/// Writes the kind of a dependency into the bytes of a row.
 fn write_kind(out: &mut Vec<u8>, kind: DependKind) -> Result<(), AllocError>
     ensures { OnOk result (Adds depend_kind out.old.items out.new.items kind) }
 {
     write_byte(out, number_of(kind))
 }
 
-/// Adds a dependency.
+/// Writes a dependency into the bytes of a row.
 fn write_depend(out: &mut Vec<u8>, written: &Depend) -> Result<(), AllocError>
     ensures { OnOk result (Adds depend out.old.items out.new.items written.now) }
 {
@@ -104,7 +104,7 @@ fn write_depend(out: &mut Vec<u8>, written: &Depend) -> Result<(), AllocError>
     write_text(out, written.item())
 }
 
-/// Adds a list of dependencies.
+/// Writes a list of dependencies, its length first, into the bytes of a row.
 pub(crate) fn write_depends(out: &mut Vec<u8>, written: &[Depend]) -> Result<(), AllocError>
     ensures { OnOk result (Adds (list depend) out.old.items out.new.items written.now) }
 {
@@ -112,7 +112,7 @@ pub(crate) fn write_depends(out: &mut Vec<u8>, written: &[Depend]) -> Result<(),
     put_depends(out, written)
 }
 
-/// Adds dependencies, one after another.
+/// Writes dependencies, one after another, into the bytes of a row.
 fn put_depends(out: &mut Vec<u8>, written: &[Depend]) -> Result<(), AllocError>
     ensures { OnOk result
         (Adds (counted_items depend (length written.now)) out.old.items out.new.items written.now) }

@@ -1,4 +1,4 @@
-//! Faults of makefiles.
+//! The faults of makefiles in the bytes of a row: how they are written and read.
 ghost use Rattle.std.specs.Prelude.{◌≡◌, OnOk};
 ghost use Rattle.index_row.specs.Faults.{kind_of, fault_kind, fault};
 ghost use Rattle.index_row.specs.Answers.{Gives, Adds};
@@ -8,7 +8,7 @@ use crate::unread::Unread;
 use mk_base::{Fault, FaultKind};
 use std::alloc::{AllocError, Global};
 
-/// The kind of fault with this number.
+/// The kind of fault that has this number in the bytes of a row.
 #[tactic(auto, unfolding(crate::specs::Faults::kind_of))]
 fn kind_numbered(number: u8) -> Option<FaultKind>
     ensures { result ≡ kind_of number }
@@ -36,7 +36,7 @@ fn kind_numbered(number: u8) -> Option<FaultKind>
     }
 }
 
-/// A kind of fault.
+/// Reads the kind of a fault from the bytes of a row.
 #[tactic(auto, unfolding(crate::specs::Faults::fault_kind))]
 fn read_kind(bytes: &[u8]) -> Result<(FaultKind, &[u8]), Unread>
     ensures { Gives (λ x. (x.0, x.1.now)) result (fault_kind bytes.now) }
@@ -48,7 +48,7 @@ fn read_kind(bytes: &[u8]) -> Result<(FaultKind, &[u8]), Unread>
     }
 }
 
-/// A fault.
+/// Reads the fault of a makefile from the bytes of a row.
 #[tactic(auto, unfolding(crate::specs::Faults::fault))]
 pub(crate) fn read_fault(alloc: Global, bytes: &[u8]) -> Result<(Fault, &[u8]), Unread>
     ensures { Gives (λ x. (x.0, x.1.now)) result (fault bytes.now) }
@@ -59,14 +59,14 @@ pub(crate) fn read_fault(alloc: Global, bytes: &[u8]) -> Result<(Fault, &[u8]), 
     Ok((Fault::new(alloc, kind, name, line)?, rest))
 }
 
-/// Adds a kind of fault.
+/// Writes the kind of a fault into the bytes of a row.
 fn write_kind(out: &mut Vec<u8>, kind: FaultKind) -> Result<(), AllocError>
     ensures { OnOk result (Adds fault_kind out.old.items out.new.items kind) }
 {
     write_byte(out, kind.number())
 }
 
-/// Adds a fault.
+/// Writes the fault of a makefile into the bytes of a row.
 pub(crate) fn write_fault(out: &mut Vec<u8>, written: &Fault) -> Result<(), AllocError>
     ensures { OnOk result (Adds fault out.old.items out.new.items written.now) }
 {

@@ -1,4 +1,4 @@
-//! Names of packages.
+//! The names of packages in the bytes of a row: how they are written and read.
 ghost use Rattle.std.specs.Prelude.{◌≡◌, IfOk, OnOk, IsTrue, Some};
 ghost use Rattle.pkg_name.specs.Name.{split_name};
 ghost use Rattle.index_row.specs.Names.{name};
@@ -9,7 +9,7 @@ use crate::unread::Unread;
 use pkg_name::{NameFault, PkgName};
 use std::alloc::{AllocError, Global};
 
-/// The name of a package.
+/// Reads the name of a package from the bytes of a row.
 #[tactic(auto, unfolding(crate::specs::Names::name))]
 pub(crate) fn read_name(alloc: Global, bytes: &[u8]) -> Result<(PkgName, &[u8]), Unread>
     ensures { Gives (λ x. (x.0, x.1.now)) result (name bytes.now) }
@@ -22,7 +22,7 @@ pub(crate) fn read_name(alloc: Global, bytes: &[u8]) -> Result<(PkgName, &[u8]),
     }
 }
 
-/// Adds the name of a package, as its text, which is split into the name again.
+/// Writes the name of a package into the bytes of a row, as its text, which is split into the name again.
 pub(crate) fn write_name(
     alloc: Global,
     out: &mut Vec<u8>,

@@ -1,4 +1,4 @@
-//! What paths lead to.
+//! What a path leads to, in the bytes of a row: how it is written and read.
 ghost use Rattle.std.specs.Prelude.{◌≡◌, OnOk};
 ghost use Rattle.port_index.specs.Seen.{row_seen};
 ghost use Rattle.index_row.specs.Rows.{outcome, outcome_of_kind};
@@ -12,7 +12,7 @@ use crate::unread::Unread;
 use port_index::Row;
 use std::alloc::{AllocError, Global};
 
-/// What a path leads to.
+/// Reads what a path leads to from the bytes of a row.
 #[tactic(auto, unfolding(crate::specs::Rows::outcome))]
 pub(crate) fn read_outcome(alloc: Global, bytes: &[u8]) -> Result<(Row, &[u8]), Unread>
     ensures { Gives (λ x. (row_seen x.0, x.1.now)) result (outcome bytes.now) }
@@ -21,7 +21,7 @@ pub(crate) fn read_outcome(alloc: Global, bytes: &[u8]) -> Result<(Row, &[u8]), 
     read_after_kind(alloc, kind, rest)
 }
 
-/// What a path leads to, after the number of its kind.
+/// Reads what a path leads to from the bytes of a row that follow the number of its kind.
 fn read_after_kind(alloc: Global, kind: u8, bytes: &[u8]) -> Result<(Row, &[u8]), Unread>
     ensures { Gives (λ x. (row_seen x.0, x.1.now)) result (outcome_of_kind kind bytes.now) }
 {
@@ -53,7 +53,7 @@ fn read_after_kind(alloc: Global, kind: u8, bytes: &[u8]) -> Result<(Row, &[u8])
     }
 }
 
-/// Adds what a path leads to.
+/// Writes what a path leads to into the bytes of a row.
 pub(crate) fn write_outcome(
     alloc: Global,
     out: &mut Vec<u8>,

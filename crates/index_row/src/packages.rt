@@ -1,4 +1,4 @@
-//! Packages of ports.
+//! The packages of a port in the bytes of a row: how they are written and read.
 ghost use Rattle.std.specs.Prelude.{◌≡◌, length, OnOk};
 ghost use Rattle.index_row.specs.Reads.{counted_items, list};
 ghost use Rattle.index_row.specs.Ports.{port_package};
@@ -10,7 +10,7 @@ use crate::unread::Unread;
 use port_rules::Package;
 use std::alloc::{AllocError, Global};
 
-/// A package.
+/// Reads a package of a port from the bytes of a row.
 #[tactic(auto, unfolding(crate::specs::Ports::port_package))]
 fn read_package(alloc: Global, bytes: &[u8]) -> Result<(Package, &[u8]), Unread>
     ensures { Gives (λ x. (x.0, x.1.now)) result (port_package bytes.now) }
@@ -21,7 +21,7 @@ fn read_package(alloc: Global, bytes: &[u8]) -> Result<(Package, &[u8]), Unread>
     Ok((Package::new(subpackage, name, comment), rest))
 }
 
-/// A list of packages.
+/// Reads the list of a port's packages, its length first, from the bytes of a row.
 #[tactic(auto, unfolding(crate::specs::Reads::list))]
 pub(crate) fn read_packages(alloc: Global, bytes: &[u8]) -> Result<(Vec<Package>, &[u8]), Unread>
     ensures { Gives (λ x. (x.0.items, x.1.now)) result (list port_package bytes.now) }
@@ -30,7 +30,7 @@ pub(crate) fn read_packages(alloc: Global, bytes: &[u8]) -> Result<(Vec<Package>
     packages_in(alloc, count, rest)
 }
 
-/// So many packages.
+/// Reads so many packages of a port from the bytes of a row.
 fn packages_in(alloc: Global, count: u64, bytes: &[u8]) -> Result<(Vec<Package>, &[u8]), Unread>
     ensures { Gives (λ x. (x.0.items, x.1.now)) result (counted_items port_package count bytes.now) }
 {
@@ -44,7 +44,7 @@ fn packages_in(alloc: Global, count: u64, bytes: &[u8]) -> Result<(Vec<Package>,
     Ok((found, rest))
 }
 
-/// Adds a package.
+/// Writes a package of a port into the bytes of a row.
 fn write_package(alloc: Global, out: &mut Vec<u8>, written: &Package) -> Result<(), AllocError>
     ensures { OnOk result (Adds port_package out.old.items out.new.items written.now) }
 {
@@ -53,7 +53,7 @@ fn write_package(alloc: Global, out: &mut Vec<u8>, written: &Package) -> Result<
     write_text(out, written.comment())
 }
 
-/// Adds a list of packages.
+/// Writes the list of a port's packages, its length first, into the bytes of a row.
 pub(crate) fn write_packages(
     alloc: Global,
     out: &mut Vec<u8>,
@@ -65,7 +65,7 @@ pub(crate) fn write_packages(
     put_packages(alloc, out, written)
 }
 
-/// Adds packages, one after another.
+/// Writes packages of a port, one after another, into the bytes of a row.
 fn put_packages(alloc: Global, out: &mut Vec<u8>, written: &[Package]) -> Result<(), AllocError>
     ensures { OnOk result
         (Adds (counted_items port_package (length written.now)) out.old.items out.new.items written.now) }

@@ -1,4 +1,4 @@
-//! Records of ports.
+//! The records of ports in the bytes of a row: how they are written and read.
 ghost use Rattle.std.specs.Prelude.{◌≡◌, OnOk};
 ghost use Rattle.index_row.specs.Ports.{flavors, port};
 ghost use Rattle.index_row.specs.Answers.{Gives, Adds};
@@ -11,7 +11,7 @@ use crate::unread::Unread;
 use port_rules::{PortFlavors, PortRecord};
 use std::alloc::{AllocError, Global};
 
-/// The flavors of a port.
+/// Reads the flavors of a port from the bytes of a row.
 #[tactic(auto, unfolding(crate::specs::Ports::flavors))]
 fn read_flavors(alloc: Global, bytes: &[u8]) -> Result<(PortFlavors, &[u8]), Unread>
     ensures { Gives (λ x. (x.0, x.1.now)) result (flavors bytes.now) }
@@ -22,7 +22,7 @@ fn read_flavors(alloc: Global, bytes: &[u8]) -> Result<(PortFlavors, &[u8]), Unr
     Ok((PortFlavors::new(chosen, proper, pseudo), rest))
 }
 
-/// The record of a port.
+/// Reads the record of a port from the bytes of a row.
 #[tactic(auto, unfolding(crate::specs::Ports::port))]
 pub(crate) fn read_port(alloc: Global, bytes: &[u8]) -> Result<(PortRecord, &[u8]), Unread>
     ensures { Gives (λ x. (x.0, x.1.now)) result (port bytes.now) }
@@ -36,7 +36,7 @@ pub(crate) fn read_port(alloc: Global, bytes: &[u8]) -> Result<(PortRecord, &[u8
     Ok((record, rest))
 }
 
-/// Adds the flavors of a port.
+/// Writes the flavors of a port into the bytes of a row.
 fn write_flavors(out: &mut Vec<u8>, written: &PortFlavors) -> Result<(), AllocError>
     ensures { OnOk result (Adds flavors out.old.items out.new.items written.now) }
 {
@@ -45,7 +45,7 @@ fn write_flavors(out: &mut Vec<u8>, written: &PortFlavors) -> Result<(), AllocEr
     write_texts(out, written.pseudo())
 }
 
-/// Adds the record of a port.
+/// Writes the record of a port into the bytes of a row.
 pub(crate) fn write_port(
     alloc: Global,
     out: &mut Vec<u8>,

@@ -1,4 +1,4 @@
-//! Rows.
+//! Rows of the index as bytes: a whole row is written and read.
 ghost use Rattle.std.specs.Prelude.{◌≡◌, Some, option_map, IfOk, OnOk};
 ghost use Rattle.index_row.specs.Rows.{row, row_of};
 ghost use Rattle.index_row.specs.Seen.{kept_row_seen};
@@ -11,7 +11,7 @@ use crate::unread::Unread;
 use port_index::Finding;
 use std::alloc::{AllocError, Global};
 
-/// How many bytes a row is given at first. Most rows need no more.
+/// How many bytes a row that is written is given at first. Most rows need no more.
 const ROW_CAPACITY: usize = 1_024;
 
 /// A row of the index: what a path leads to, and what was asked to learn that.
@@ -23,7 +23,7 @@ pub struct KeptRow {
     pub names: Vec<String>,
 }
 
-/// The bytes of a row. `read_row` reads them as this row.
+/// The bytes of a row of the index. `read_row` reads them as this row.
 ///
 /// It fails only if memory runs out.
 pub fn write_row(alloc: Global, row: &KeptRow) -> Result<Vec<u8>, AllocError>
@@ -34,7 +34,7 @@ pub fn write_row(alloc: Global, row: &KeptRow) -> Result<Vec<u8>, AllocError>
     Ok(out)
 }
 
-/// The row that bytes are; `None` if they are damaged. It fails only if memory runs out.
+/// The row of the index that bytes are; `None` if they are damaged. It fails only if memory runs out.
 pub fn read_row(alloc: Global, text: &[u8]) -> Result<Option<KeptRow>, AllocError>
     ensures { IfOk result (λ found. option_map kept_row_seen found ≡ row_of text.now) }
 {
@@ -45,7 +45,7 @@ pub fn read_row(alloc: Global, text: &[u8]) -> Result<Option<KeptRow>, AllocErro
     }
 }
 
-/// The row that bytes are.
+/// Reads the row that these bytes are, to their end.
 #[tactic(auto, unfolding(crate::specs::Rows::row_of))]
 fn read_whole(alloc: Global, text: &[u8]) -> Result<KeptRow, Unread>
     ensures { Gives kept_row_seen result (row_of text.now) }
@@ -57,7 +57,8 @@ fn read_whole(alloc: Global, text: &[u8]) -> Result<KeptRow, Unread>
     Ok(kept)
 }
 
-/// A row.
+/// Reads the parts of a row from bytes: what the path leads to, what it cost, and the names that were asked
+/// about.
 #[tactic(auto, unfolding(crate::specs::Rows::row))]
 fn read_parts(alloc: Global, bytes: &[u8]) -> Result<(KeptRow, &[u8]), Unread>
     ensures { Gives (λ x. (kept_row_seen x.0, x.1.now)) result (row bytes.now) }
@@ -69,7 +70,8 @@ fn read_parts(alloc: Global, bytes: &[u8]) -> Result<(KeptRow, &[u8]), Unread>
     Ok((KeptRow { found, names }, rest))
 }
 
-/// Adds a row.
+/// Writes the parts of a row into bytes: what the path leads to, what it cost, and the names that were asked
+/// about.
 fn write_parts(alloc: Global, out: &mut Vec<u8>, kept: &KeptRow) -> Result<(), AllocError>
     ensures { OnOk result (Adds row out.old.items out.new.items (kept_row_seen kept.now)) }
 {

@@ -1,4 +1,4 @@
-//! Bytes, numbers and texts.
+//! Single bytes, numbers and texts in the bytes of a row: how they are written and read.
 ghost use Rattle.std.specs.Prelude.{◌≡◌, ◌++◌, ◌∷◌, [], string_bytes, OnOk};
 ghost use Rattle.std.specs.Int.{w64};
 ghost use Rattle.index_row.specs.Reads.{byte, number, stretch, text};
@@ -7,7 +7,7 @@ ghost use Rattle.index_row.specs.Answers.{Gives, Adds};
 use crate::unread::Unread;
 use std::alloc::{AllocError, Global};
 
-/// A byte.
+/// Reads one byte from the bytes of a row.
 #[tactic(auto, unfolding(crate::specs::Reads::byte))]
 pub(crate) fn read_byte(bytes: &[u8]) -> Result<(u8, &[u8]), Unread>
     ensures { Gives (λ x. (x.0, x.1.now)) result (byte bytes.now) }
@@ -18,7 +18,7 @@ pub(crate) fn read_byte(bytes: &[u8]) -> Result<(u8, &[u8]), Unread>
     }
 }
 
-/// So many bytes.
+/// Takes so many bytes off the bytes of a row.
 #[tactic(auto, unfolding(crate::specs::Reads::stretch))]
 fn read_stretch(bytes: &[u8], count: usize) -> Result<(&[u8], &[u8]), Unread>
     ensures { Gives (λ x. (x.0.now, x.1.now)) result (stretch count bytes.now) }
@@ -29,7 +29,7 @@ fn read_stretch(bytes: &[u8], count: usize) -> Result<(&[u8], &[u8]), Unread>
     Ok(bytes.split_at(count))
 }
 
-/// A number of 64 bits.
+/// Reads a number of 64 bits from the bytes of a row.
 #[tactic(auto, unfolding(crate::specs::Reads::stretch, crate::specs::Reads::number))]
 pub(crate) fn read_number(bytes: &[u8]) -> Result<(u64, &[u8]), Unread>
     ensures { Gives (λ x. (x.0, x.1.now)) result (number w64 bytes.now) }
@@ -44,7 +44,7 @@ pub(crate) fn read_number(bytes: &[u8]) -> Result<(u64, &[u8]), Unread>
     Ok((number, rest))
 }
 
-/// A text, as the bytes have it.
+/// Reads a text from the bytes of a row, which lend it.
 #[tactic(auto, unfolding(crate::specs::Reads::text))]
 pub(crate) fn read_str(bytes: &[u8]) -> Result<(&str, &[u8]), Unread>
     ensures { Gives (λ x. (x.0.now, x.1.now)) result (text bytes.now) }
@@ -57,7 +57,7 @@ pub(crate) fn read_str(bytes: &[u8]) -> Result<(&str, &[u8]), Unread>
     }
 }
 
-/// A text of its own.
+/// Reads a text from the bytes of a row, as a copy.
 pub(crate) fn read_text(alloc: Global, bytes: &[u8]) -> Result<(String, &[u8]), Unread>
     ensures { Gives (λ x. (string_bytes x.0, x.1.now)) result (text bytes.now) }
 {
@@ -65,7 +65,7 @@ pub(crate) fn read_text(alloc: Global, bytes: &[u8]) -> Result<(String, &[u8]), 
     Ok((String::from_str(alloc, text)?, rest))
 }
 
-/// Adds a byte.
+/// Writes one byte into the bytes of a row.
 pub(crate) fn write_byte(out: &mut Vec<u8>, value: u8) -> Result<(), AllocError>
     ensures { OnOk result (Adds byte out.old.items out.new.items value) }
 {
@@ -73,7 +73,7 @@ pub(crate) fn write_byte(out: &mut Vec<u8>, value: u8) -> Result<(), AllocError>
     Ok(())
 }
 
-/// Adds a number of 64 bits.
+/// Writes a number of 64 bits into the bytes of a row.
 pub(crate) fn write_number(out: &mut Vec<u8>, value: u64) -> Result<(), AllocError>
     ensures { OnOk result (Adds (number w64) out.old.items out.new.items value) }
 {
@@ -81,7 +81,7 @@ pub(crate) fn write_number(out: &mut Vec<u8>, value: u64) -> Result<(), AllocErr
     Ok(())
 }
 
-/// Adds a text.
+/// Writes a text, its length first, into the bytes of a row.
 pub(crate) fn write_text(out: &mut Vec<u8>, written: &str) -> Result<(), AllocError>
     ensures { OnOk result (Adds text out.old.items out.new.items written.now) }
 {

@@ -1,4 +1,4 @@
-//! Lists of texts.
+//! Lists of texts in the bytes of a row: how they are written and read.
 ghost use Rattle.std.specs.Prelude.{◌≡◌, length, map, string_bytes, OnOk};
 ghost use Rattle.index_row.specs.Reads.{text, texts, counted_items};
 ghost use Rattle.index_row.specs.Answers.{Gives, Adds};
@@ -7,7 +7,7 @@ use crate::scalars::{read_number, read_text, write_number, write_text};
 use crate::unread::Unread;
 use std::alloc::{AllocError, Global};
 
-/// A list of texts.
+/// Reads a list of texts, its length first, from the bytes of a row.
 #[tactic(auto, unfolding(crate::specs::Reads::list))]
 pub(crate) fn read_texts(alloc: Global, bytes: &[u8]) -> Result<(Vec<String>, &[u8]), Unread>
     ensures { Gives (λ x. (map string_bytes x.0.items, x.1.now)) result (texts bytes.now) }
@@ -16,7 +16,7 @@ pub(crate) fn read_texts(alloc: Global, bytes: &[u8]) -> Result<(Vec<String>, &[
     texts_in(alloc, count, rest)
 }
 
-/// So many texts.
+/// Reads so many texts from the bytes of a row.
 fn texts_in(alloc: Global, count: u64, bytes: &[u8]) -> Result<(Vec<String>, &[u8]), Unread>
     ensures { Gives (λ x. (map string_bytes x.0.items, x.1.now)) result
         (counted_items text count bytes.now) }
@@ -31,7 +31,7 @@ fn texts_in(alloc: Global, count: u64, bytes: &[u8]) -> Result<(Vec<String>, &[u
     Ok((found, rest))
 }
 
-/// Adds a list of texts.
+/// Writes a list of texts, its length first, into the bytes of a row.
 pub(crate) fn write_texts(out: &mut Vec<u8>, written: &[String]) -> Result<(), AllocError>
     ensures { OnOk result
         (Adds texts out.old.items out.new.items (map string_bytes written.now)) }
@@ -40,7 +40,7 @@ pub(crate) fn write_texts(out: &mut Vec<u8>, written: &[String]) -> Result<(), A
     put_texts(out, written)
 }
 
-/// Adds texts, one after another.
+/// Writes texts, one after another, into the bytes of a row.
 fn put_texts(out: &mut Vec<u8>, written: &[String]) -> Result<(), AllocError>
     ensures { OnOk result (Adds (counted_items text (length written.now))
         out.old.items out.new.items (map string_bytes written.now)) }

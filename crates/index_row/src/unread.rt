@@ -1,4 +1,4 @@
-//! Why bytes were not read.
+//! Why the bytes of a row were not read.
 ghost use Rattle.std.specs.Prelude.{◌≡◌};
 ghost use Rattle.refusals.specs.Refused.{refused};
 ghost use Rattle.index_row.specs.declared.unread.Unread.TheVariants.{Memory};
@@ -6,7 +6,7 @@ ghost use Rattle.index_row.specs.declared.unread.Unread.TheVariants.{Memory};
 use refusals::OutOfMemory;
 use std::alloc::{AllocError, AllocFailed};
 
-/// Why bytes were not read.
+/// Why the bytes of a row were not read.
 #[derive(Clone, Copy, Debug, PartialEq, Eq)]
 pub(crate) enum Unread {
     /// What was wanted isn't there.
@@ -18,6 +18,7 @@ pub(crate) enum Unread {
 impl From<AllocError> for Unread {
     ghost from_gives = { λ _ stop. stop ≡ Memory refused };
 
+    /// The bytes of a row were not read since memory ran out.
     fn from(error: AllocError) -> Unread {
         Unread::Memory(OutOfMemory::from(error))
     }
@@ -26,6 +27,7 @@ impl From<AllocError> for Unread {
 impl<T: Drop> From<AllocFailed<T>> for Unread {
     ghost from_gives = { λ _ stop. stop ≡ Memory refused };
 
+    /// The bytes of a row were not read since memory ran out for what was to be added.
     fn from(error: AllocFailed<T>) -> Unread {
         Unread::Memory(OutOfMemory::from(error))
     }

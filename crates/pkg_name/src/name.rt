@@ -30,6 +30,7 @@ pub enum NameFault {
 impl From<AllocError> for NameFault {
     ghost from_gives = { λ _ fault. fault ≡ Memory refused };
 
+    /// The fault that there was no memory for the name of a package.
     fn from(error: AllocError) -> NameFault {
         NameFault::Memory(OutOfMemory::from(error))
     }
@@ -65,9 +66,9 @@ impl Model for PkgName {
 }
 
 impl PkgName {
-    /// The parts of the name that a text is. The version begins at the first digit that follows a
-    /// dash, and ends before the next dash. The stem is before it, and the flavors are after it, each
-    /// after a dash.
+    /// The parts of the package's name that a text is. The version begins at the first digit that follows a
+    /// dash, and ends before the next dash. The stem is before it, and the flavors are after it, each after a
+    /// dash.
     ///
     /// The fault is `NoName` if the text is no name, and `Memory` if memory runs out.
     pub fn split(alloc: Global, text: &str) -> Result<PkgName, NameFault>
@@ -93,7 +94,8 @@ impl PkgName {
         })
     }
 
-    /// The text of the name, which is split into the same name again. It fails only if memory runs out.
+    /// The text of the package's name, which is split into the same name again. It fails only if memory runs
+    /// out.
     pub fn text(&self, alloc: Global) -> Result<String, AllocError>
         ensures text { IfOk result (λ text. string_bytes text ≡ name_text self.now) }
         ensures split { IfOk result (λ text. split_name (string_bytes text) ≡ Some self.now) }
@@ -102,28 +104,28 @@ impl PkgName {
         format!(in alloc; "{self}")
     }
 
-    /// What is so of each name. The function does nothing.
+    /// Each name of a package is split from its text again. The function does nothing: its clause says so.
     fn is_split_from_its_text(&self)
         ensures { split_name (name_text self.now) ≡ Some self.now }
     {
         let _stem = self.stem.as_str();
     }
 
-    /// The stem: what is before the version.
+    /// The stem of the package's name: what is before the version.
     pub fn stem(&self) -> &str
         ensures { result.now ≡ self.now.stem }
     {
         self.stem.as_str()
     }
 
-    /// The version.
+    /// The version in the package's name.
     pub fn version(&self) -> &Version
         ensures { result.now ≡ self.now.version }
     {
         &self.version
     }
 
-    /// The flavors, in the order of the name's text.
+    /// The flavors in the package's name, in the order of the text.
     pub fn flavors(&self) -> &[String]
         ensures { map string_bytes result.now ≡ self.now.flavors }
     {
@@ -134,6 +136,7 @@ impl PkgName {
 impl fmt::Display for PkgName {
     ghost output = { λ name. Some (name_text name) };
 
+    /// Writes the text of the package's name.
     fn fmt<W: fmt::Write>(&self, f: &mut fmt::Formatter<W>) -> fmt::Result {
         f.write_str(self.stem())?;
         f.write_str("-")?;
@@ -146,15 +149,15 @@ impl fmt::Display for PkgName {
     }
 }
 
-/// What is before the first dash that a digit follows, and what follows that dash.
+/// What is before the first dash in a package's name that a digit follows, and what follows that dash.
 fn cut_at_version(text: &str) -> Option<(&str, &str)>
     ensures { CutsAtVersion result text.now }
 {
     cut_where(text, '-', begins_with_digit)
 }
 
-/// The words after a stem as a version, not read yet, and flavors; `None` if the stem or a
-/// flavor isn't one.
+/// The words after the stem of a package's name: the version, not read yet, and the flavors. `None` if the
+/// stem or a flavor isn't one.
 fn version_and_flavors<'a, 'b>(stem: &str, words: &'b [&'a str]) -> Option<(&'a str, &'b [&'a str])>
     ensures { CutsFlavors result stem.now words.now }
 {
@@ -166,28 +169,28 @@ fn version_and_flavors<'a, 'b>(stem: &str, words: &'b [&'a str]) -> Option<(&'a 
     }
 }
 
-/// Whether each text is a stem or a flavor.
+/// Whether each text may be a stem or a flavor in a package's name.
 fn are_words(texts: &[&str]) -> bool
     ensures { result ≡ list_all (λ text. is_stem_or_flavor text.now) texts.now }
 {
     texts.iter().all(|text| is_word_text(text))
 }
 
-/// Whether a text is a stem or a flavor.
+/// Whether a text may be a stem or a flavor in a package's name.
 fn is_word_text(text: &str) -> bool
     ensures { result ≡ is_stem_or_flavor text.now }
 {
     !text.is_empty() && has_word_bytes(text)
 }
 
-/// Whether each byte may be in a stem or a flavor.
+/// Whether each byte of a text may be in the stem or a flavor of a package's name.
 fn has_word_bytes(text: &str) -> bool
     ensures { result ≡ list_all (λ byte. not (is_forbidden byte)) text.now }
 {
     text.bytes().all(|byte| !is_forbidden_byte(byte))
 }
 
-/// Whether a byte is in no stem and in no flavor.
+/// Whether a byte may be in no stem and in no flavor of a package's name.
 fn is_forbidden_byte(byte: u8) -> bool
     ensures { result ≡ is_forbidden byte }
 {

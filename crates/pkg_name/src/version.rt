@@ -1,4 +1,4 @@
-//! Versions of packages: reading, printing and comparing them.
+//! Versions of packages: read, printed and compared.
 ghost use Rattle.std.specs.Prelude.{◌≡◌, IfOk, IsErrOf, Some, false, true, refl};
 ghost use Rattle.refusals.specs.Refused.{refused};
 ghost use Rattle.std.specs.List.{list_all};
@@ -19,10 +19,10 @@ use std::fmt;
 use std::marker::Model;
 use thiserror::Error;
 
-/// The most digits of a number in a version.
+/// The most digits of a number in a version of a package.
 const MOST_DIGITS: usize = 18;
 
-/// Why a text is no version.
+/// Why a text is no version of a package.
 #[derive(Clone, Copy, Debug, PartialEq, Eq, Error)]
 pub enum VersionFault {
     /// It doesn't begin with a digit, has a byte that no version has, or a number of more than 18 digits.
@@ -36,6 +36,7 @@ pub enum VersionFault {
 impl From<AllocError> for VersionFault {
     ghost from_gives = { λ _ fault. fault ≡ Memory refused };
 
+    /// The fault that there was no memory for the version of a package.
     fn from(error: AllocError) -> VersionFault {
         VersionFault::Memory(OutOfMemory::from(error))
     }
@@ -67,7 +68,7 @@ impl Model for Version {
 }
 
 impl Version {
-    /// The version that a text is.
+    /// The version of a package that a text is.
     ///
     /// The fault is `NoVersion` if the text is no version, and `Memory` if memory runs out.
     pub fn read(alloc: Global, text: &str) -> Result<Version, VersionFault>
@@ -83,7 +84,7 @@ impl Version {
         })
     }
 
-    /// The version's text.
+    /// The text of a package's version.
     pub fn as_str(&self) -> &str
         ensures text { result.now ≡ self.now }
         ensures version { IsVersion self.now }
@@ -95,6 +96,7 @@ impl Version {
 impl fmt::Display for Version {
     ghost output = { λ version. Some version };
 
+    /// Writes the text of a package's version.
     fn fmt<W: fmt::Write>(&self, f: &mut fmt::Formatter<W>) -> fmt::Result {
         fmt::Display::fmt(&self.as_str(), f)
     }
@@ -105,6 +107,7 @@ impl PartialEq for Version {
 
     ghost laws = { partial_equiv_from_equiv nat_list_eq_equiv };
 
+    /// Whether two versions of packages are equal, which is so exactly if their texts are the same.
     fn eq(&self, other: &Version) -> bool {
         self.as_str() == other.as_str()
     }
@@ -119,6 +122,7 @@ impl PartialOrd for Version {
 
     ghost laws = { version_po };
 
+    /// How two versions of packages compare: any two do.
     fn partial_cmp(&self, other: &Version) -> Option<Ordering> {
         Some(self.cmp(other))
     }
@@ -133,19 +137,20 @@ impl Ord for Version {
 
     ghost matches_eq = { version_cmp_ties };
 
+    /// How two versions of packages compare, in the order of versions.
     fn cmp(&self, other: &Version) -> Ordering {
         compare_versions(self.text.as_bytes(), other.text.as_bytes())
     }
 }
 
-/// Whether a text is a version.
+/// Whether a text is a version of a package.
 fn is_version_text(text: &[u8]) -> bool
     ensures { result ≡ is_version text.now }
 {
     begins_with_digit(text) && has_version_bytes(text) && numbers_are_short(text)
 }
 
-/// Whether a text begins with a digit.
+/// Whether a text begins with a digit, as each version of a package does.
 pub(crate) fn begins_with_digit(text: &[u8]) -> bool
     ensures { result ≡ begins_with_digit text.now }
 {
@@ -155,21 +160,21 @@ pub(crate) fn begins_with_digit(text: &[u8]) -> bool
     }
 }
 
-/// Whether each byte may be in a version.
+/// Whether each byte of a text may be in a version of a package.
 fn has_version_bytes(text: &[u8]) -> bool
     ensures { result ≡ list_all is_version_byte text.now }
 {
     text.iter().all(|byte| may_be_in_version(*byte))
 }
 
-/// Whether a byte may be in a version.
+/// Whether a byte may be in a version of a package.
 fn may_be_in_version(byte: u8) -> bool
     ensures { result ≡ is_version_byte byte }
 {
     byte.is_ascii_alphanumeric() || byte == b'.' || byte == b'_' || byte == b'+'
 }
 
-/// Whether no number has more than 18 digits.
+/// Whether no number in a version of a package has more than 18 digits.
 fn numbers_are_short(text: &[u8]) -> bool
     ensures { result ≡ has_short_numbers text.now }
 {

@@ -1,5 +1,5 @@
-//! The order of versions, without memory: each text is cut where its keys end, and each byte of it is read a
-//! fixed number of times.
+//! The order of versions of packages, which takes no memory: each text is cut where its keys end, and each
+//! byte of it is read a fixed number of times.
 ghost use Rattle.std.specs.Prelude.{◌≡◌, ◌==◌, ◌<◌, ◌≤◌, ◌-◌, false, IsTrue, length, drop, slice_index, IfSome, []};
 ghost use Rattle.std.specs.List.{list_all, take_while, prefix_len, position_or_len};
 ghost use Rattle.std.specs.Char.{is_ascii_digit, is_ascii_alphabetic};
@@ -11,14 +11,14 @@ ghost use Rattle.pkg_name.specs.Order.{letters_cmp, version_cmp, CutsFirstPart};
 use std::cmp::Ordering;
 use std::str;
 
-/// A text whose end, a letter and a number, is taken off.
+/// The text of a version whose end, a letter and a number, is taken off.
 #[derive(Clone, Copy)]
 struct Ended<'a> {
     before: &'a [u8],
     number: Option<u64>,
 }
 
-/// The keys of a part of a version.
+/// The keys by which a part of a version is ordered.
 #[derive(Clone, Copy)]
 struct PartKeys<'a> {
     number: Option<u64>,
@@ -27,7 +27,7 @@ struct PartKeys<'a> {
     rest: &'a [u8],
 }
 
-/// How two versions compare.
+/// How two versions of packages compare, by their texts.
 pub(crate) fn compare_versions(version: &[u8], other: &[u8]) -> Ordering
     requires short { IsTrue (has_short_numbers version.now) }
     requires other_short { IsTrue (has_short_numbers other.now) }
@@ -44,7 +44,7 @@ pub(crate) fn compare_versions(version: &[u8], other: &[u8]) -> Ordering
         .then(version.cmp(other))
 }
 
-/// The text with its end taken off, the letter and a number.
+/// The text of a version with its end taken off, the letter and a number.
 fn take_ending(text: &[u8], letter: u8) -> Ended<'_>
     requires short { IsTrue (has_short_numbers text.now) }
     requires no_digit { is_ascii_digit letter ≡ false }
@@ -72,7 +72,7 @@ fn take_ending(text: &[u8], letter: u8) -> Ended<'_>
     }
 }
 
-/// The index at which the digits that end a text begin.
+/// The index at which the digits begin that end the text of a version.
 fn final_digits(text: &[u8]) -> usize
     ensures bound { result ≤ length text.now }
     ensures digits { IsTrue (list_all is_ascii_digit (drop result text.now)) }
@@ -85,7 +85,7 @@ fn final_digits(text: &[u8]) -> usize
     start
 }
 
-/// The number that at most 18 digits write; `None` if there are no digits.
+/// The number in a version that at most 18 digits write; `None` if there are no digits.
 fn number(digits: &[u8]) -> Option<u64>
     requires digits { IsTrue (list_all is_ascii_digit digits.now) }
     requires few { length digits.now ≤ 18 }
@@ -97,7 +97,7 @@ fn number(digits: &[u8]) -> Option<u64>
     digits.parse().ok()
 }
 
-/// How two texts compare by the parts between their dots.
+/// How two versions compare by the parts between their dots.
 fn compare_parts(text: &[u8], other: &[u8]) -> Ordering
     requires short { IsTrue (has_short_numbers text.now) }
     requires other_short { IsTrue (has_short_numbers other.now) }
@@ -123,7 +123,7 @@ fn compare_parts(text: &[u8], other: &[u8]) -> Ordering
     }
 }
 
-/// The first part of a text, and what follows its dot, if there is one.
+/// The first part of a version's text, and what follows its dot, if there is one.
 fn first_part(text: &[u8]) -> (&[u8], Option<&[u8]>)
     requires short { IsTrue (has_short_numbers text.now) }
     ensures parts { CutsFirstPart result text.now }
@@ -139,7 +139,7 @@ fn first_part(text: &[u8]) -> (&[u8], Option<&[u8]>)
     }
 }
 
-/// The index of the first dot of a text, or of the text's end if there is no dot.
+/// The index of the first dot in a version's text, or of the text's end if there is no dot.
 fn dot_or_end(text: &[u8]) -> usize
     ensures value { result ≡ position_or_len (λ byte. byte == 46) text.now }
     ensures bound { result ≤ length text.now }
@@ -147,7 +147,7 @@ fn dot_or_end(text: &[u8]) -> usize
     text.iter().take_while(|byte| **byte != b'.').count()
 }
 
-/// How two parts compare by their keys.
+/// How two parts of versions compare by their keys.
 fn compare_part(part: &[u8], other: &[u8]) -> Ordering
     requires short { IsTrue (has_short_numbers part.now) }
     requires other_short { IsTrue (has_short_numbers other.now) }
@@ -161,7 +161,7 @@ fn compare_part(part: &[u8], other: &[u8]) -> Ordering
         .then(part.rest.cmp(other.rest))
 }
 
-/// The keys of a part.
+/// The keys by which a part of a version is ordered.
 fn keys_of_part(part: &[u8]) -> PartKeys<'_>
     requires short { IsTrue (has_short_numbers part.now) }
     ensures number { result.number ≡ (part_key part.now).number }
@@ -180,7 +180,7 @@ fn keys_of_part(part: &[u8]) -> PartKeys<'_>
     }
 }
 
-/// The number that a text begins with, if any, and what follows it.
+/// The number that a part of a version begins with, if any, and what follows it.
 fn take_number(text: &[u8]) -> (Option<u64>, &[u8])
     requires short { IsTrue (has_short_numbers text.now) }
     ensures number { result.0 ≡ number_written (take_while is_ascii_digit text.now) }
@@ -191,7 +191,7 @@ fn take_number(text: &[u8]) -> (Option<u64>, &[u8])
     (number(digits), behind)
 }
 
-/// The ASCII letters that a text begins with, and what follows them.
+/// The ASCII letters that a part of a version begins with, and what follows them.
 fn take_letters(text: &[u8]) -> (&[u8], &[u8])
     requires short { IsTrue (has_short_numbers text.now) }
     ensures letters { result.0.now ≡ take_while is_ascii_alphabetic text.now }
@@ -201,7 +201,7 @@ fn take_letters(text: &[u8]) -> (&[u8], &[u8])
     text.split_at(letters_at_front(text))
 }
 
-/// How many digits a text begins with.
+/// How many digits a part of a version begins with.
 fn digits_at_front(text: &[u8]) -> usize
     ensures value { result ≡ prefix_len is_ascii_digit text.now }
     ensures bound { result ≤ length text.now }
@@ -209,7 +209,7 @@ fn digits_at_front(text: &[u8]) -> usize
     text.iter().take_while(|byte| byte.is_ascii_digit()).count()
 }
 
-/// How many ASCII letters a text begins with.
+/// How many ASCII letters a part of a version begins with.
 fn letters_at_front(text: &[u8]) -> usize
     ensures value { result ≡ prefix_len is_ascii_alphabetic text.now }
     ensures bound { result ≤ length text.now }
@@ -219,7 +219,7 @@ fn letters_at_front(text: &[u8]) -> usize
         .count()
 }
 
-/// How the letters of two parts compare.
+/// How the letters in two parts of versions compare.
 fn compare_letters(letters: &[u8], other: &[u8]) -> Ordering
     ensures { result ≡ letters_cmp letters.now other.now }
 {
@@ -228,7 +228,7 @@ fn compare_letters(letters: &[u8], other: &[u8]) -> Ordering
         .then(letters.cmp(other))
 }
 
-/// The rank of letters: those that come before a release, then none, then others.
+/// The rank of the letters in a part of a version: those that come before a release, then none, then others.
 fn rank_of_letters(letters: &[u8]) -> u8
     ensures { result ≡ letters_rank letters.now }
 {

@@ -1,4 +1,5 @@
-//! The elements of a path's text, and what they may be.
+//! The elements of a package path's text, the directory and the choices after it: how the text is cut into
+//! them, and what they may be.
 ghost use Rattle.std.specs.Prelude.{◌≡◌, ◌∷◌, IfOk, filter, length};
 ghost use Rattle.std.specs.List.{list_all, list_any};
 ghost use Rattle.pkg_path.specs.Paths.{elements_of, is_subpackage, is_flavor, flavors_of, may_occur, is_directory_part};
@@ -10,8 +11,8 @@ use crate::flavors::Flavors;
 use std::alloc::{AllocError, Global};
 use text_parts::{put_in_order, split_at};
 
-/// The directory that the text of a path begins with, and the choices after it. Most texts have no choice, and
-/// then nothing is allocated.
+/// The directory that the text of a package path begins with, and the choices after it. Most texts have no
+/// choice, and then nothing is allocated.
 pub(crate) fn cut_into_elements(alloc: Global, text: &str) -> Result<(&str, Vec<&str>), AllocError>
     ensures { IfOk result (λ found. found.0.now ∷ now_all found.1.items ≡ elements_of text.now) }
 {
@@ -21,28 +22,28 @@ pub(crate) fn cut_into_elements(alloc: Global, text: &str) -> Result<(&str, Vec<
     }
 }
 
-/// Whether a choice names a subpackage.
+/// Whether a choice of a package path names a subpackage.
 fn is_subpackage(choice: &str) -> bool
     ensures { result ≡ is_subpackage choice.now }
 {
     choice.starts_with('-')
 }
 
-/// Whether a choice names a flavor.
+/// Whether a choice of a package path names a flavor.
 fn is_flavor(choice: &str) -> bool
     ensures { result ≡ is_flavor choice.now }
 {
     !choice.is_empty() && !is_subpackage(choice)
 }
 
-/// Whether each choice names a subpackage.
+/// Whether each choice of a package path names a subpackage.
 fn all_subpackages(choices: &[&str]) -> bool
     ensures { result ≡ list_all (λ choice. is_subpackage choice.now) choices.now }
 {
     choices.iter().all(|choice| is_subpackage(choice))
 }
 
-/// How many choices name a subpackage.
+/// How many choices of a package path name a subpackage.
 pub(crate) fn count_subpackages(choices: &[&str]) -> usize
     ensures { result ≡ length (filter (λ choice. is_subpackage choice.now) choices.now) }
 {
@@ -52,22 +53,22 @@ pub(crate) fn count_subpackages(choices: &[&str]) -> usize
         .count()
 }
 
-/// Whether the bytes of a text may be in a path, its directory is one, and none of its choices
-/// is a bare dash.
+/// Whether the elements of a package path are well written: its bytes may be in a path, its directory is one,
+/// and no choice is a bare dash.
 pub(crate) fn is_well_written(text: &str, directory: &str, choices: &[&str]) -> bool
     ensures { result ≡ is_well_cut text.now directory.now (now_all choices.now) }
 {
     has_path_bytes(text) && is_directory(directory) && !has_bare_dash(choices)
 }
 
-/// Whether each byte may be in a path.
+/// Whether each byte of a text may be in a package path.
 fn has_path_bytes(text: &str) -> bool
     ensures { result ≡ list_all may_occur text.now }
 {
     text.bytes().all(|byte| is_path_byte(byte))
 }
 
-/// Whether a byte may be in a path.
+/// Whether a byte may be in a package path.
 fn is_path_byte(byte: u8) -> bool
     ensures { result ≡ may_occur byte }
 {
@@ -81,28 +82,28 @@ fn is_path_byte(byte: u8) -> bool
         && byte != b'*'
 }
 
-/// Whether the parts between the slashes of a text may be in a directory.
+/// Whether a text may be the directory of a package path, by the parts between its slashes.
 fn is_directory(text: &str) -> bool
     ensures { result ≡ is_directory text.now }
 {
     text.split('/').all(|part| is_part(part))
 }
 
-/// Whether a part may be in a directory.
+/// Whether a part between slashes may be in the directory of a package path.
 fn is_part(part: &str) -> bool
     ensures { result ≡ is_directory_part part.now }
 {
     part != "" && part != "." && part != ".."
 }
 
-/// Whether a choice is a dash without a name.
+/// Whether a choice of a package path is a dash without a name.
 fn has_bare_dash(choices: &[&str]) -> bool
     ensures { result ≡ list_any (λ choice. is_bare_dash choice.now) choices.now }
 {
     choices.iter().any(|choice| *choice == "-")
 }
 
-/// The flavors of choices.
+/// The flavors that the choices of a package path choose.
 pub(crate) fn flavors_of(alloc: Global, choices: &[&str]) -> Result<Flavors, AllocError>
     ensures { IfOk result (λ flavors. flavors_seen flavors ≡ flavors_of (now_all choices.now)) }
 {
@@ -114,7 +115,7 @@ pub(crate) fn flavors_of(alloc: Global, choices: &[&str]) -> Result<Flavors, All
     Ok(Flavors::Explicit(flavors))
 }
 
-/// The flavors that choices name, as they are written.
+/// The flavors that the choices of a package path name, as they are written.
 fn named_flavors(alloc: Global, choices: &[&str]) -> Result<Vec<String>, AllocError>
     ensures { FindsFlavors result choices.now }
 {
@@ -127,7 +128,7 @@ fn named_flavors(alloc: Global, choices: &[&str]) -> Result<Vec<String>, AllocEr
     Ok(flavors)
 }
 
-/// The first subpackage that choices name; `None` if they name none.
+/// The first subpackage that the choices of a package path name; `None` if they name none.
 pub(crate) fn subpackage_of(alloc: Global, choices: &[&str]) -> Result<Option<String>, AllocError>
     ensures { GivesSubpackage result choices.now }
 {

@@ -1,4 +1,4 @@
-//! Why a text names no path.
+//! Why a text names no package path.
 ghost use Rattle.std.specs.Prelude.{◌≡◌};
 ghost use Rattle.refusals.specs.Refused.{refused};
 ghost use Rattle.pkg_path.specs.Paths.{refusal_number};
@@ -27,7 +27,7 @@ pub enum PkgPathFault {
 }
 
 impl PkgPathFault {
-    /// The number of the refusal, 1 to 3; `None` for `Memory`, which isn't a refusal.
+    /// The number of the refusal of a package path, 1 to 3; `None` for `Memory`, which isn't a refusal.
     pub fn number(&self) -> Option<u8>
         ensures { result ≡ refusal_number self.now }
     {
@@ -43,6 +43,7 @@ impl PkgPathFault {
 impl From<AllocError> for PkgPathFault {
     ghost from_gives = { λ _ fault. fault ≡ Memory refused };
 
+    /// The fault that there was no memory for a package path.
     fn from(error: AllocError) -> PkgPathFault {
         Self::Memory(OutOfMemory::from(error))
     }

@@ -1,4 +1,4 @@
-//! The flavors of a path.
+//! The flavors that a package path chooses: compared, copied and written.
 ghost use Rattle.std.specs.Prelude.{◌≡◌, ◌↔◌, IsTrue, IfOk, map, string_bytes};
 ghost use Rattle.pkg_path.specs.Seen.{flavors_seen, WritesChoices, WritesFlavors};
 
@@ -6,7 +6,7 @@ use std::alloc::{AllocError, Global};
 use std::fmt;
 use text_parts::clones_of;
 
-/// The flavors that a path chooses.
+/// The flavors that a package path chooses.
 #[derive(Debug, Drop, PartialEq, Eq)]
 pub(crate) enum Flavors {
     /// None are chosen: the port's default flavor.
@@ -15,7 +15,7 @@ pub(crate) enum Flavors {
     Explicit(Vec<String>),
 }
 
-/// Whether these are the same flavors.
+/// Whether two package paths choose the same flavors.
 pub(crate) fn same_flavors(one: &Flavors, other: &Flavors) -> bool
     ensures { IsTrue result ↔ (flavors_seen one.now ≡ flavors_seen other.now) }
 {
@@ -26,14 +26,14 @@ pub(crate) fn same_flavors(one: &Flavors, other: &Flavors) -> bool
     }
 }
 
-/// Whether these are the same names, in the same order.
+/// Whether two lists of flavors have the same names, in the same order.
 fn same_names(names: &[String], others: &[String]) -> bool
     ensures { IsTrue result ↔ (map string_bytes names.now ≡ map string_bytes others.now) }
 {
     names == others
 }
 
-/// The same flavors.
+/// A copy of the flavors that a package path chooses.
 pub(crate) fn copy_flavors(alloc: Global, flavors: &Flavors) -> Result<Flavors, AllocError>
     ensures { IfOk result (λ copied. flavors_seen copied ≡ flavors_seen flavors.now) }
 {
@@ -43,7 +43,7 @@ pub(crate) fn copy_flavors(alloc: Global, flavors: &Flavors) -> Result<Flavors, 
     }
 }
 
-/// Writes flavors as a path has them, each after a comma.
+/// Writes the flavors that a package path chooses as its text has them, each after a comma.
 pub(crate) fn write_flavors<W: fmt::Write>(
     flavors: &Flavors,
     f: &mut fmt::Formatter<W>,
@@ -57,7 +57,7 @@ pub(crate) fn write_flavors<W: fmt::Write>(
     }
 }
 
-/// Writes names, each after a comma.
+/// Writes the names of flavors, each after a comma.
 fn write_names<W: fmt::Write>(names: &[String], f: &mut fmt::Formatter<W>) -> fmt::Result
     ensures { WritesChoices W.write_str_gives result f.old f.new (map string_bytes names.now) }
 {

@@ -1,4 +1,4 @@
-//! Package paths.
+//! Package paths: read from texts, printed in the canonical form, and compared.
 ghost use Rattle.std.specs.Prelude.{◌≡◌, ◌↔◌, IsTrue, IfOk, map, option_map, Some};
 ghost use Rattle.std.specs.String.{string_bytes};
 ghost use Rattle.std.specs.Option.{option_copied};
@@ -49,7 +49,8 @@ impl Model for PkgPath {
     }) };
 }
 
-/// Whether a text is a path that chooses no flavors and names no subpackage: a directory alone. It takes no memory.
+/// Whether a text is a package path that chooses no flavors and names no subpackage: a directory alone. It
+/// takes no memory.
 pub fn is_bare(text: &str) -> bool
     ensures { result ≡ is_bare_directory text.now }
 {
@@ -60,7 +61,7 @@ pub fn is_bare(text: &str) -> bool
 }
 
 impl PkgPath {
-    /// The path that a text names.
+    /// The package path that a text names.
     ///
     /// Commas separate its elements. The first is the directory. The others may be in any order: one
     /// that begins with a dash is the subpackage, and one that doesn't is a flavor. If such an element
@@ -96,7 +97,7 @@ impl PkgPath {
         })
     }
 
-    /// The path that a text names; `None` if it names none, whatever the refusal. It fails only if
+    /// The package path that a text names; `None` if it names none, whatever the refusal. It fails only if
     /// memory runs out.
     pub fn read_if_one(alloc: Global, text: &str) -> Result<Option<PkgPath>, AllocError>
         ensures { IfOk result (λ path. path ≡ path_if_one text.now) }
@@ -110,15 +111,15 @@ impl PkgPath {
         }
     }
 
-    /// The canonical text: the directory, the flavors in the order of their bytes without doubles (a
-    /// lone comma for the empty flavor), and the subpackage. It fails only if memory runs out.
+    /// The canonical text of the package path: the directory, the flavors in the order of their bytes without
+    /// doubles (a lone comma for the empty flavor), and the subpackage. It fails only if memory runs out.
     pub fn canonical(&self, alloc: Global) -> Result<String, AllocError>
         ensures { IfOk result (λ text. string_bytes text ≡ canonical self.now) }
     {
         format!(in alloc; "{self}")
     }
 
-    /// The canonical text of the port that the path names: without the subpackage. It fails only if
+    /// The canonical text of the port that the package path names: without the subpackage. It fails only if
     /// memory runs out.
     pub fn port_path(&self, alloc: Global) -> Result<String, AllocError>
         ensures { IfOk result (λ text. string_bytes text ≡ port_path self.now) }
@@ -129,7 +130,7 @@ impl PkgPath {
         }
     }
 
-    /// The same path without its subpackage.
+    /// The package path without its subpackage.
     pub fn without_sub(self) -> PkgPath
         ensures { result ≡ without_subpackage self }
     {
@@ -140,7 +141,7 @@ impl PkgPath {
         }
     }
 
-    /// Another path that is the same. It fails only if memory runs out.
+    /// A copy of the package path. It fails only if memory runs out.
     pub fn copy(&self, alloc: Global) -> Result<PkgPath, AllocError>
         ensures { IfOk result (λ path. path ≡ self.now) }
     {
@@ -151,7 +152,7 @@ impl PkgPath {
         })
     }
 
-    /// The directory of the port below a ports tree, such as `editors/vim`.
+    /// The directory of the package path, that of the port below a ports tree, such as `editors/vim`.
     pub fn directory(&self) -> &str
         ensures directory { result.now ≡ self.now.directory }
         ensures is_path { IsPath self.now }
@@ -159,8 +160,8 @@ impl PkgPath {
         self.directory.as_str()
     }
 
-    /// The flavors, if some are chosen: exactly these, in the order of their bytes, each once. An empty
-    /// list is the empty flavor. `None` is the port's default flavor.
+    /// The flavors that the package path chooses, if it chooses some: exactly these, in the order of their
+    /// bytes, each once. An empty list is the empty flavor. `None` is the port's default flavor.
     pub fn flavors(&self) -> Option<&[String]>
         ensures { option_map (λ names. map string_bytes names.now) result ≡ self.now.flavors }
     {
@@ -170,7 +171,7 @@ impl PkgPath {
         }
     }
 
-    /// The subpackage with its dash, such as `-main`; `None` if none is named.
+    /// The subpackage of the package path with its dash, such as `-main`; `None` if none is named.
     pub fn subpackage(&self) -> Option<&str>
         ensures { option_copied result ≡ self.now.subpackage }
     {
@@ -184,6 +185,7 @@ impl PkgPath {
 impl fmt::Display for PkgPath {
     ghost output = { λ path. Some (canonical path) };
 
+    /// Writes the canonical text of the package path.
     #[tactic(auto, unfolding(crate::specs::Paths::canonical))]
     fn fmt<W: fmt::Write>(&self, f: &mut fmt::Formatter<W>) -> fmt::Result {
         f.write_str(self.directory.as_str())?;
@@ -201,7 +203,7 @@ impl PartialEq for PkgPath {
 
     ghost laws = { partial_equiv_from_equiv (on_equiv canonical nat_list_eq_equiv) };
 
-    /// Whether the paths are the same, which is so exactly if their canonical texts are the same.
+    /// Whether two package paths are the same, which is so exactly if their canonical texts are the same.
     fn eq(&self, other: &PkgPath) -> bool
         ensures same { IsTrue result ↔ (self.now ≡ other.now) }
         ensures texts { result ≡ bytes_eq (canonical self.now) (canonical other.now) }
@@ -216,7 +218,7 @@ impl Eq for PkgPath {
     ghost laws = { on_equiv canonical nat_list_eq_equiv };
 }
 
-/// The same subpackage, or none.
+/// A copy of the subpackage of a package path, if it names one.
 fn copy_name(alloc: Global, name: &Option<String>) -> Result<Option<String>, AllocError>
     ensures { CopiesName result name.now }
 {
@@ -226,7 +228,7 @@ fn copy_name(alloc: Global, name: &Option<String>) -> Result<Option<String>, All
     }
 }
 
-/// Whether these are the same subpackage, or both none.
+/// Whether two package paths name the same subpackage, or both none.
 fn same_subpackage(one: &Option<String>, other: &Option<String>) -> bool
     ensures { TellsSameName result one.now other.now }
 {

@@ -1,4 +1,4 @@
-//! The alternatives of a spec.
+//! The alternatives of a package spec: each read from its text, and which names of packages it admits.
 ghost use Rattle.std.specs.Prelude.{◌≡◌, ◌==◌, ◌&&◌, not, IfOk, IsErrOf, MatchOption, Some, None, true, false, map};
 ghost use Rattle.std.specs.Prelude.{filter, drop, slice_index};
 ghost use Rattle.std.specs.List.{list_all, list_any, slice_split};
@@ -17,7 +17,7 @@ use pkg_name::PkgName;
 use std::alloc::{AllocError, Global};
 use text_parts::{cut_where, split_at};
 
-/// An alternative of a spec.
+/// An alternative of a package spec.
 #[derive(Debug, Drop)]
 pub(crate) struct Alternative {
     pub(crate) stem: String,
@@ -29,7 +29,7 @@ pub(crate) struct Alternative {
 impl Alternative {
     ghost use Rattle.pkg_spec.specs.Seen.{alternative_seen, admits_after_stem, admits_flavors};
 
-    /// The alternative that a text is, or the refusal that fits.
+    /// The alternative of a spec that a text is, or the refusal that fits.
     pub(crate) fn read(alloc: Global, text: &str) -> Result<Alternative, SpecFault>
         ensures ok { ReadsAlternative result text.now }
         ensures no_stem { RefusesAs result SpecFault.NoStem (alternative_of text.now) }
@@ -63,21 +63,21 @@ impl Alternative {
         })
     }
 
-    /// Whether the alternative admits a name.
+    /// Whether the alternative of a spec admits a package's name.
     pub(crate) fn admits(&self, name: &PkgName) -> bool
         ensures { result ≡ set_of_alternative (alternative_seen self.now) name.now }
     {
         fits_stem(self.stem.as_str(), name) && self.admits_after_stem(name)
     }
 
-    /// Whether the version and the flavors of a name are those that are asked for.
+    /// Whether the alternative of a spec admits the version and the flavors of a package's name.
     fn admits_after_stem(&self, name: &PkgName) -> bool
         ensures { result ≡ admits_after_stem self.now name.now }
     {
         all_hold(&self.comparisons, name) && self.admits_flavors(name)
     }
 
-    /// Whether the flavors of a name are those that are asked for.
+    /// Whether the alternative of a spec admits the flavors of a package's name.
     fn admits_flavors(&self, name: &PkgName) -> bool
         ensures { result ≡ admits_flavors self.now name.now }
     {
@@ -85,14 +85,14 @@ impl Alternative {
     }
 }
 
-/// Whether a stem that is asked for fits that of a name.
+/// Whether the stem that an alternative of a spec asks for fits that of a package's name.
 fn fits_stem(stem: &str, name: &PkgName) -> bool
     ensures { result ≡ with_stem stem.now name.now }
 {
     stem == "STEM" || stem == name.stem()
 }
 
-/// Whether the version of a name meets each comparison.
+/// Whether the version of a package's name meets each comparison of a spec's alternative.
 fn all_hold(comparisons: &[Comparison], name: &PkgName) -> bool
     ensures { result ≡ meets_comparisons comparisons.now name.now }
 {
@@ -102,7 +102,7 @@ fn all_hold(comparisons: &[Comparison], name: &PkgName) -> bool
         .all(|comparison| comparison.holds(version))
 }
 
-/// Whether a name has each of these flavors.
+/// Whether a package's name has each flavor that an alternative of a spec wants.
 fn has_all(name: &PkgName, wanted: &[String]) -> bool
     ensures { result ≡ has_all wanted.now name.now }
 {
@@ -111,7 +111,7 @@ fn has_all(name: &PkgName, wanted: &[String]) -> bool
         .all(|flavor| has_flavor(name, flavor.as_str()))
 }
 
-/// Whether a name has none of these flavors.
+/// Whether a package's name has none of the flavors that an alternative of a spec forbids.
 fn has_none(name: &PkgName, forbidden: &[String]) -> bool
     ensures { result ≡ has_none forbidden.now name.now }
 {
@@ -120,28 +120,29 @@ fn has_none(name: &PkgName, forbidden: &[String]) -> bool
         .all(|flavor| !has_flavor(name, flavor.as_str()))
 }
 
-/// Whether a name has a flavor.
+/// Whether a package's name has a flavor that a spec's alternative gives.
 fn has_flavor(name: &PkgName, flavor: &str) -> bool
     ensures { result ≡ having flavor.now name.now }
 {
     is_among(name.flavors(), flavor)
 }
 
-/// Whether a text is among others.
+/// Whether a flavor is among the flavors of a package's name.
 fn is_among(others: &[String], text: &str) -> bool
     ensures { result ≡ list_any (λ other. bytes_eq text.now (string_bytes other)) others.now }
 {
     others.iter().any(|other| text == other.as_str())
 }
 
-/// What is before the first dash that a digit, `*` or a sign follows, and what follows that dash.
+/// The text of a spec's alternative, cut at the first dash that a digit, `*` or a sign follows: what is
+/// before that dash, and what follows it.
 fn cut_at_versions(text: &str) -> Option<(&str, &str)>
     ensures { GivesCut result (at_versions text.now) }
 {
     cut_where(text, '-', begins_versions)
 }
 
-/// Whether a text begins with versions.
+/// Whether a text begins as the versions of a spec's alternative do: with a digit, `*` or a sign.
 fn begins_versions(text: &[u8]) -> bool
     ensures { result ≡ begins_versions text.now }
 {
@@ -151,35 +152,35 @@ fn begins_versions(text: &[u8]) -> bool
     }
 }
 
-/// Whether each flavor has a name.
+/// Whether each flavor of a spec's alternative has a name.
 fn all_have_names(flavors: &[&str]) -> bool
     ensures { result ≡ list_all (λ flavor. has_name flavor.now) flavors.now }
 {
     flavors.iter().all(|flavor| has_name(flavor))
 }
 
-/// Whether a flavor has a name.
+/// Whether a flavor of a spec's alternative has a name.
 fn has_name(flavor: &str) -> bool
     ensures { result ≡ has_name flavor.now }
 {
     flavor != "" && flavor != "!"
 }
 
-/// The name of a forbidden flavor; `None` if the flavor isn't forbidden.
+/// The name of a flavor that a spec's alternative forbids; `None` if the flavor isn't forbidden.
 fn forbidden_name(flavor: &str) -> Option<&str>
     ensures { GivesForbidden result flavor.now }
 {
     flavor.strip_prefix('!')
 }
 
-/// Whether a flavor is forbidden.
+/// Whether a flavor is one that a spec's alternative forbids: one after `!`.
 fn forbids(flavor: &str) -> bool
     ensures { result ≡ forbids flavor.now }
 {
     flavor.starts_with('!')
 }
 
-/// The flavors that must be there.
+/// The flavors of a spec's alternative that a name must have.
 fn wanted_of(alloc: Global, flavors: &[&str]) -> Result<Vec<String>, AllocError>
     ensures { GivesFlavors result (wanted_among (now_all flavors.now)) }
 {
@@ -192,7 +193,7 @@ fn wanted_of(alloc: Global, flavors: &[&str]) -> Result<Vec<String>, AllocError>
     Ok(wanted)
 }
 
-/// The flavors that must not be there.
+/// The flavors of a spec's alternative that a name must not have.
 fn forbidden_of(alloc: Global, flavors: &[&str]) -> Result<Vec<String>, AllocError>
     ensures { GivesFlavors result (forbidden_among (now_all flavors.now)) }
 {

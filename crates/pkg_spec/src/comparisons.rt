@@ -1,4 +1,4 @@
-//! The comparisons of a spec.
+//! The comparisons of versions in a package spec.
 ghost use Rattle.std.specs.Prelude.{◌≡◌};
 ghost use Rattle.pkg_name.specs.Order.{version_cmp};
 ghost use Rattle.pkg_spec.specs.Alternatives.{signed, versions_of, comparisons_in};
@@ -11,7 +11,7 @@ use std::alloc::{AllocError, Global};
 use std::cmp::Ordering;
 use text_parts::split_at;
 
-/// How a version must compare with the one of a comparison.
+/// How a version must compare with the one in a comparison of a spec.
 #[derive(Clone, Copy, Debug, PartialEq, Eq)]
 pub(crate) enum ComparisonSign {
     /// `<`
@@ -26,7 +26,7 @@ pub(crate) enum ComparisonSign {
     Above,
 }
 
-/// A comparison with a version.
+/// A comparison of a spec: a sign, and the version after it.
 #[derive(Debug, Drop)]
 pub(crate) struct Comparison {
     pub(crate) sign: ComparisonSign,
@@ -34,7 +34,7 @@ pub(crate) struct Comparison {
 }
 
 impl Comparison {
-    /// The comparison that a text is; `None` if what follows its sign is no version.
+    /// The comparison of a spec that a text is; `None` if what follows its sign is no version.
     fn read(alloc: Global, text: &str) -> Result<Option<Comparison>, AllocError>
         ensures { ReadsComparison result text.now }
     {
@@ -46,7 +46,7 @@ impl Comparison {
         }
     }
 
-    /// Whether a version meets the comparison.
+    /// Whether a version meets the comparison of a spec.
     pub(crate) fn holds(&self, version: &Version) -> bool
         ensures { result ≡ allows_ordering self.now.sign (version_cmp version.now self.now.version) }
     {
@@ -60,7 +60,7 @@ impl Comparison {
     }
 }
 
-/// The sign of a comparison, and what follows it.
+/// The sign that a comparison of a spec begins with, and what follows it.
 fn signed(text: &str) -> (ComparisonSign, &str)
     ensures sign { result.0 ≡ (signed text.now).sign }
     ensures version { result.1.now ≡ (signed text.now).version }
@@ -83,8 +83,8 @@ fn signed(text: &str) -> (ComparisonSign, &str)
     }
 }
 
-/// The comparisons of an alternative's versions: an empty list for `*`; `None` if one of them is
-/// no comparison.
+/// The comparisons that the versions of a spec's alternative are: an empty list for `*`; `None` if one of
+/// them is no comparison.
 pub(crate) fn read_versions(
     alloc: Global,
     versions: &str,
@@ -98,7 +98,7 @@ pub(crate) fn read_versions(
     read_comparisons(alloc, &pieces)
 }
 
-/// The comparisons of texts; `None` if one of them is no comparison.
+/// The comparisons of a spec that texts are; `None` if one of them is no comparison.
 fn read_comparisons(alloc: Global, texts: &[&str]) -> Result<Option<Vec<Comparison>>, AllocError>
     ensures { ReadsComparisons result (comparisons_in (now_all texts.now)) }
 {

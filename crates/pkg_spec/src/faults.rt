@@ -1,4 +1,4 @@
-//! Why a text is no spec.
+//! Why a text is no package spec.
 ghost use Rattle.std.specs.Prelude.{◌≡◌};
 ghost use Rattle.refusals.specs.Refused.{refused};
 ghost use Rattle.pkg_spec.specs.Alternatives.{refusal_number};
@@ -8,8 +8,8 @@ use refusals::OutOfMemory;
 use std::alloc::AllocError;
 use thiserror::Error;
 
-/// Why a text is no spec. If several refusals fit, in one alternative or in several, it is the
-/// first of them.
+/// Why a text is no package spec. If several refusals fit, in one alternative or in several, it is the first
+/// of them.
 #[derive(Clone, Copy, Debug, PartialEq, Eq, Error)]
 pub enum SpecFault {
     /// An alternative has no stem, or no versions: no dash that a digit, `*` or a sign follows.
@@ -27,7 +27,7 @@ pub enum SpecFault {
 }
 
 impl SpecFault {
-    /// The number of the refusal, 1 to 3; `None` for `Memory`, which isn't a refusal.
+    /// The number of the refusal of a package spec, 1 to 3; `None` for `Memory`, which isn't a refusal.
     pub fn number(&self) -> Option<u8>
         ensures { result ≡ refusal_number self.now }
     {
@@ -43,6 +43,7 @@ impl SpecFault {
 impl From<AllocError> for SpecFault {
     ghost from_gives = { λ _ fault. fault ≡ Memory refused };
 
+    /// The fault that there was no memory for a package spec.
     fn from(error: AllocError) -> SpecFault {
         Self::Memory(OutOfMemory::from(error))
     }

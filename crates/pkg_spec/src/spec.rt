@@ -1,4 +1,4 @@
-//! Specs of packages.
+//! Package specs: read from texts, and matched against names of packages.
 ghost use Rattle.std.specs.Prelude.{◌≡◌, ◌==◌, ◌++◌, ◌||◌, IfOk, IsErrOf, Some, IsOk, map, option_to_list};
 ghost use Rattle.std.specs.List.{slice_split, filter_map, list_any};
 ghost use Rattle.std.specs.Result.{result_ok};
@@ -42,7 +42,7 @@ impl Model for Spec {
 }
 
 impl Spec {
-    /// The spec that a text is.
+    /// The package spec that a text is.
     ///
     /// Bars separate its alternatives. The stem of an alternative ends before the first dash that a
     /// digit, `*` or a sign follows. Then come the versions, which are `*` or comparisons with commas
@@ -87,7 +87,7 @@ impl Spec {
         one_admits(&self.alternatives, name)
     }
 
-    /// The text of the spec.
+    /// The text of the package spec.
     pub fn as_str(&self) -> &str
         ensures text { result.now ≡ self.now }
         ensures is_spec { IsOk (spec_of self.now) }
@@ -99,12 +99,13 @@ impl Spec {
 impl fmt::Display for Spec {
     ghost output = { λ spec. Some spec };
 
+    /// Writes the text of the package spec.
     fn fmt<W: fmt::Write>(&self, f: &mut fmt::Formatter<W>) -> fmt::Result {
         f.write_str(self.as_str())
     }
 }
 
-/// Whether one of the alternatives admits a name.
+/// Whether one of a spec's alternatives admits a package's name.
 fn one_admits(alternatives: &[Alternative], name: &PkgName) -> bool
     ensures { result ≡ one_admits alternatives.now name.now }
 {
@@ -113,7 +114,7 @@ fn one_admits(alternatives: &[Alternative], name: &PkgName) -> bool
         .any(|alternative| alternative.admits(name))
 }
 
-/// The alternatives that are read so far, and for each refusal whether one of the texts had it.
+/// The alternatives of a spec that are read so far, and for each refusal whether one of the texts had it.
 #[derive(Drop)]
 struct Reading {
     alternatives: Vec<Alternative>,
@@ -123,7 +124,7 @@ struct Reading {
 }
 
 impl Reading {
-    /// With one more alternative.
+    /// The reading of a spec with one more alternative.
     fn with(mut self, alloc: Global, text: &str) -> Result<Reading, AllocError>
         ensures alternatives { AddsIfRead result self text.now }
         ensures no_stem { NotesRefusal result SpecFault.NoStem self text.now }
@@ -141,7 +142,7 @@ impl Reading {
     }
 }
 
-/// What the parts of a spec say.
+/// What the parts between the bars of a spec say, read one after another.
 fn read_parts(alloc: Global, parts: &[&str]) -> Result<Reading, AllocError>
     ensures { IfOk result (ReadsParts (now_all parts.now)) }
 {

@@ -1,4 +1,4 @@
-//! What a request changes.
+//! What a request changes of a tenant's world, and the answer that is prepared before.
 use mk_files::Content;
 use mk_paths::{Name, SearchPath};
 use mk_text::Profile;
@@ -33,7 +33,7 @@ pub struct Prepared {
 impl Prepared {
     ghost use Rattle.std.specs.Prelude.{◌≡◌, None};
 
-    /// A reply, and no change.
+    /// The prepared answer of a request that changes nothing: a reply alone.
     pub(crate) fn reply_alone(reply: Reply) -> Prepared
         ensures { result ≡ record { reply = reply; change = None } }
     {

@@ -1,4 +1,4 @@
-//! The routes of dependencies, both ways.
+//! The routes of dependencies, `/v1/deps` and `/v1/rdeps`: their questions and replies.
 ghost use Rattle.std.specs.Prelude.{Ok};
 ghost use Rattle.plain_service.specs.IndexRoutes as routes;
 ghost use Rattle.plain_service.specs.IndexRoutes.{dependency_reply as reply_over};
@@ -20,7 +20,7 @@ use ports_http::{Content, Reply, StatusCode};
 use ports_query::{Kinds, edges_to, first_edges, reached, reaching};
 use std::alloc::{AllocError, Global};
 
-/// Which way dependencies are followed.
+/// Which way the routes of dependencies follow them.
 #[derive(Clone, Copy, Debug, PartialEq, Eq)]
 pub enum Direction {
     /// From a port to what it depends on.
@@ -29,7 +29,7 @@ pub enum Direction {
     Dependents,
 }
 
-/// What is asked about a path's dependencies.
+/// What is asked about the dependencies of a path.
 #[derive(Drop)]
 pub struct DependencyQuestion {
     /// The path of the port.
@@ -56,7 +56,7 @@ pub fn dependency_question(
     }
 }
 
-/// What a query asks about a path's dependencies, or the refusal.
+/// What the query of `/v1/deps` or `/v1/rdeps` asks about a path's dependencies, or the refusal.
 fn question_in(alloc: Global, query: &str) -> Result<Result<DependencyQuestion, Reply>, AllocError>
     ensures { IfMade result (routes.question_of_query query.now) }
 {
@@ -71,7 +71,7 @@ fn question_in(alloc: Global, query: &str) -> Result<Result<DependencyQuestion, 
     }
 }
 
-/// The question about a path that kinds and a depth make, or the refusal.
+/// The question about a path's dependencies that the texts of kinds and a depth make, or the refusal.
 fn question_on(
     alloc: Global,
     path: PkgPath,
@@ -86,7 +86,8 @@ fn question_on(
     }
 }
 
-/// The reply that lists what a port depends on, or what depends on it. It fails only if memory runs out.
+/// The reply of `/v1/deps` or `/v1/rdeps`: what a port depends on, or what depends on it. It fails only if
+/// memory runs out.
 pub fn dependency_reply(
     alloc: Global,
     index: &KnownIndex,
@@ -104,7 +105,7 @@ pub fn dependency_reply(
     }
 }
 
-/// What a port depends on. The port must have the subpackage, if one is named.
+/// The reply of `/v1/deps`: what a port depends on. The port must have the subpackage, if one is named.
 fn dependencies_reply(
     alloc: Global,
     index: &KnownIndex,
@@ -128,8 +129,8 @@ fn dependencies_reply(
     }
 }
 
-/// The dependencies of the port at the question's path, which is this one without its subpackage: its own, or
-/// all ports that it reaches.
+/// The body of `/v1/deps` for the port at the question's path, which is this one without its subpackage: its
+/// own dependencies, or all ports that it reaches.
 fn dependencies_body(
     alloc: Global,
     index: &KnownIndex,
@@ -153,7 +154,7 @@ fn dependencies_body(
     }
 }
 
-/// The dependencies of the port at the question's path, by these.
+/// The body of `/v1/deps` at depth 1: the dependencies, out of these, of the port at the question's path.
 fn first_body(
     alloc: Global,
     edges: &[RootEdge],
@@ -165,7 +166,8 @@ fn first_body(
     list_bodies::dependencies(alloc, &first)
 }
 
-/// The ports that the port at the question's path reaches over these dependencies.
+/// The body of `/v1/deps` at depth `all`: the ports that the port at the question's path reaches over these
+/// dependencies.
 fn reached_body(
     alloc: Global,
     edges: &[RootEdge],
@@ -177,7 +179,7 @@ fn reached_body(
     list_bodies::reached(alloc, &paths)
 }
 
-/// What depends on the port at the question's path.
+/// The body of `/v1/rdeps`: what depends on the port at the question's path.
 fn dependents_body(
     alloc: Global,
     index: &KnownIndex,
@@ -194,7 +196,8 @@ fn dependents_body(
     }
 }
 
-/// The same, given the dependencies of all ports.
+/// The body of `/v1/rdeps`, given the dependencies of all ports: what depends on the port at the question's
+/// path.
 fn dependents_over(
     alloc: Global,
     edges: &[RootEdge],

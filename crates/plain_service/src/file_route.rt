@@ -1,4 +1,4 @@
-//! The route of files.
+//! The route of files, `/v1/file`: its questions and answers.
 ghost use Rattle.std.specs.Prelude.{◌≡◌};
 ghost use Rattle.plain_service.specs.Answers.{file_answer, file_asked};
 ghost use Rattle.plain_service.specs.Requests.{reply_alone};
@@ -15,7 +15,7 @@ use mk_paths::{Name, NameFault};
 use ports_http::{Method, StatusCode};
 use std::alloc::{AllocError, Global};
 
-/// What is asked of one file.
+/// What is asked of one file of a tenant.
 #[derive(Drop)]
 pub enum FileQuestion {
     /// The content of the file of this name.
@@ -47,6 +47,7 @@ pub fn file_question(
     }
 }
 
+/// The question about the file of this name by the method of the request.
 fn named_file_question(
     alloc: Global,
     method: Method,
@@ -62,7 +63,8 @@ fn named_file_question(
     }
 }
 
-/// The change that stores a file, whether or not it was there, with its reply.
+/// The question of a PUT of a file, settled by the change that stores it, whether or not it was there, with
+/// its reply.
 fn store_file(alloc: Global, name: Name, body: &[u8]) -> Result<Question, AllocError>
     ensures { IfMade result (questions.named_file_question Method.Put body.now name) }
 {
@@ -73,7 +75,7 @@ fn store_file(alloc: Global, name: Name, body: &[u8]) -> Result<Question, AllocE
 }
 
 impl FileQuestion {
-    /// The name of the file.
+    /// The name of the file that the question is about.
     pub fn name(&self) -> &Name
         ensures { result.now ≡ file_asked self.now }
     {
@@ -82,8 +84,8 @@ impl FileQuestion {
         }
     }
 
-    /// The answer, if the file has this content, or isn't there: its bytes, or the change that removes it. It fails only
-    /// if memory runs out.
+    /// The answer to the question about a file that has this content, or isn't there: its bytes, or the
+    /// change that removes it. It fails only if memory runs out.
     pub fn answer(self, alloc: Global, content: Option<Content>) -> Result<Prepared, AllocError>
         ensures { Prepares result (file_answer self content) }
     {
@@ -103,6 +105,7 @@ impl FileQuestion {
     }
 }
 
+/// The answer to a question about a file that isn't there: 404 `{"error":"NoFile"}`.
 fn no_file(alloc: Global) -> Result<Prepared, AllocError>
     ensures { Prepares result (reply_alone no_file_reply) }
 {

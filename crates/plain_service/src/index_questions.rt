@@ -1,4 +1,4 @@
-//! What is asked of all ports, by the index.
+//! What a request asks of all ports, by the index.
 ghost use Rattle.std.specs.Prelude.{◌≡◌};
 ghost use Rattle.plain_service.specs.Answers.{follows_all, follows_edges, index_reply};
 ghost use Rattle.plain_service.specs.Outcomes.{RepliesOver};
@@ -12,7 +12,7 @@ use ports_http::Reply;
 use ports_query::Query;
 use std::alloc::{AllocError, Global};
 
-/// What is asked of all ports.
+/// What a request asks of all ports, by the index.
 #[derive(Drop)]
 pub enum IndexQuestion {
     /// The packages that meet all these conditions.
@@ -26,7 +26,8 @@ pub enum IndexQuestion {
 }
 
 impl IndexQuestion {
-    /// Whether it looks at the dependencies of all ports. A question about the dependencies of one port alone doesn't.
+    /// Whether the question of the index looks at the dependencies of all ports. A question about the
+    /// dependencies of one port alone doesn't.
     pub fn follows_edges(&self) -> bool
         ensures { result ≡ follows_edges self.now }
     {
@@ -36,7 +37,7 @@ impl IndexQuestion {
         }
     }
 
-    /// The reply, by the index of a world. It fails only if memory runs out.
+    /// The reply to the question of all ports, by the index of a world. It fails only if memory runs out.
     pub fn reply(&self, alloc: Global, index: &KnownIndex) -> Result<Reply, AllocError>
         ensures { RepliesOver index.now result (λ world. index_reply world self.now) }
     {
@@ -51,7 +52,7 @@ impl IndexQuestion {
     }
 }
 
-/// Whether dependencies that are followed this way, so far, are those of all ports.
+/// Whether a question that follows dependencies this way, so far, looks at those of all ports.
 fn follows_all(direction: Direction, depth: Depth) -> bool
     ensures { result ≡ follows_all direction depth }
 {

@@ -8,7 +8,7 @@ ghost use Rattle.plain_service.specs.Outcomes.{EndsList, EndsMembers};
 use json::Writer;
 use std::alloc::{AllocError, Global};
 
-/// A number or a text.
+/// A number or a text, as a member of a JSON object.
 #[derive(Clone, Copy)]
 pub enum Scalar<'a> {
     /// This number.
@@ -17,7 +17,7 @@ pub enum Scalar<'a> {
     Text(&'a str),
 }
 
-/// Writes an object with these members. It fails only if memory runs out.
+/// Writes a JSON object with these members. It fails only if memory runs out.
 pub fn write_object(out: &mut Writer, members: &[(&str, Scalar<'_>)]) -> Result<(), AllocError>
     ensures { OnOk result (AddsValue out.old out.new (object (members_of members.now))) }
 {
@@ -29,6 +29,7 @@ pub fn write_object(out: &mut Writer, members: &[(&str, Scalar<'_>)]) -> Result<
     out.end_object()
 }
 
+/// Writes the number or the text that a member of a JSON object is.
 fn write_scalar(out: &mut Writer, value: Scalar<'_>) -> Result<(), AllocError>
     ensures { OnOk result (AddsValue out.old out.new (scalar_value value.entry)) }
 {
@@ -38,7 +39,8 @@ fn write_scalar(out: &mut Writer, value: Scalar<'_>) -> Result<(), AllocError>
     }
 }
 
-/// Begins an object whose one member, of this name, is a list. It fails only if memory runs out.
+/// Begins the JSON text of an object whose one member, of this name, is a list. It fails only if memory runs
+/// out.
 pub fn begin_list(alloc: Global, name: &str) -> Result<Writer, AllocError>
     ensures { IfOk result (λ out. HasItems out name.now []) }
 {
@@ -49,7 +51,7 @@ pub fn begin_list(alloc: Global, name: &str) -> Result<Writer, AllocError>
     Ok(out)
 }
 
-/// Ends the object that `begin_list` began, which is the whole text. It fails only if memory runs out.
+/// Ends the JSON object that `begin_list` began, and gives the whole text. It fails only if memory runs out.
 pub fn end_list(mut out: Writer) -> Result<Vec<u8>, AllocError>
     ensures { EndsList out result }
 {
@@ -58,7 +60,7 @@ pub fn end_list(mut out: Writer) -> Result<Vec<u8>, AllocError>
     Ok(out.into_inner())
 }
 
-/// Begins an object of any members. It fails only if memory runs out.
+/// Begins the JSON text of an object of any members. It fails only if memory runs out.
 pub fn begin_members(alloc: Global) -> Result<Writer, AllocError>
     ensures { IfOk result (λ out. HasMembers out []) }
 {
@@ -67,7 +69,8 @@ pub fn begin_members(alloc: Global) -> Result<Writer, AllocError>
     Ok(out)
 }
 
-/// Ends the object that `begin_members` began, which is the whole text. It fails only if memory runs out.
+/// Ends the JSON object that `begin_members` began, and gives the whole text. It fails only if memory runs
+/// out.
 pub fn end_members(mut out: Writer) -> Result<Vec<u8>, AllocError>
     ensures { EndsMembers out result }
 {

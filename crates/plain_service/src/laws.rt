@@ -1,4 +1,4 @@
-//! What holds of every answer, as functions that do nothing.
+//! What holds of every answer of the plain service, as functions that do nothing.
 ghost use Rattle.plain_service.specs.Languages.{OthersKeepTheProfile};
 ghost use Rattle.plain_service.specs.Plain.{NeverAnswers503};
 ghost use Rattle.plain_service.specs.AnswerCosts.{RestsOnEachOnce};
@@ -9,16 +9,16 @@ pub fn never_answers_503()
     ensures { NeverAnswers503 }
 {}
 
-/// What is spent for a question is never more units than it costs, and at most 1,028 answers are checked for each
-/// makefile on which its answer rests. If one makefile at most is needed and no answer is checked, all these units
-/// are spent.
+/// What is spent for a question of the plain service is never more units than it costs. At most 1,028 answers
+/// are checked for each makefile on which its answer rests. If one makefile at most is needed and no answer
+/// is checked, all these units are spent.
 pub fn spending_is_bounded()
     ensures within { SpendsNoMore }
     ensures few { ChecksNoMore }
     ensures whole { SpendsAllUnchecked }
 {}
 
-/// A request to any other route than `/v1/profile` leaves the profile of the world.
+/// A request to any other route than `/v1/profile` leaves the profile of the tenant's world.
 pub fn others_keep_the_profile()
     ensures { OthersKeepTheProfile }
 {}

@@ -1,4 +1,4 @@
-//! Lists of packages, dependencies and faults, as JSON texts.
+//! The bodies of replies that are lists, of packages, dependencies or faults, as JSON texts.
 ghost use Rattle.std.specs.Prelude.{◌≡◌, OnOk, map, string_bytes, option_to_list};
 ghost use Rattle.std.specs.Option.{option_copied};
 ghost use Rattle.ports_query.specs.Edges.{edges_lent};
@@ -15,7 +15,7 @@ use port_deps::{Edge, Root, RootEdge};
 use ports_query::Listed;
 use std::alloc::{AllocError, Global};
 
-/// The body that lists these packages. It fails only if memory runs out.
+/// The body of a reply that lists these packages. It fails only if memory runs out.
 pub fn packages(alloc: Global, packages: &[Listed<'_>]) -> Result<Vec<u8>, AllocError>
     ensures { WritesJson result (bodies.packages_body packages.now) }
 {
@@ -26,6 +26,7 @@ pub fn packages(alloc: Global, packages: &[Listed<'_>]) -> Result<Vec<u8>, Alloc
     end_list(out)
 }
 
+/// Writes one package of a body that lists packages.
 fn listed(alloc: Global, out: &mut Writer, one: &Listed<'_>) -> Result<(), AllocError>
     ensures { OnOk result (AddsValue out.old out.new (bodies.listed_body one.now)) }
 {
@@ -33,7 +34,7 @@ fn listed(alloc: Global, out: &mut Writer, one: &Listed<'_>) -> Result<(), Alloc
     listed_as(out, name.as_str(), one.path(), one.subpackage())
 }
 
-/// A package, given its texts.
+/// Writes one package of a body that lists packages, given its texts.
 fn listed_as<'a>(
     out: &mut Writer,
     name: &'a str,
@@ -52,7 +53,7 @@ fn listed_as<'a>(
     )
 }
 
-/// The body that lists what a port depends on: each dependency. It fails only if memory runs out.
+/// The body of a reply that lists what a port depends on: each dependency. It fails only if memory runs out.
 pub fn dependencies(alloc: Global, edges: &[&RootEdge]) -> Result<Vec<u8>, AllocError>
     ensures { WritesJson result (bodies.dependencies_body (edges_lent edges.now)) }
 {
@@ -63,6 +64,7 @@ pub fn dependencies(alloc: Global, edges: &[&RootEdge]) -> Result<Vec<u8>, Alloc
     end_list(out)
 }
 
+/// Writes one dependency of a body that lists what a port depends on.
 fn dependency(alloc: Global, out: &mut Writer, edge: &Edge) -> Result<(), AllocError>
     ensures { OnOk result (AddsValue out.old out.new (bodies.dependency_body edge.now)) }
 {
@@ -70,7 +72,7 @@ fn dependency(alloc: Global, out: &mut Writer, edge: &Edge) -> Result<(), AllocE
     dependency_on(out, edge, target.as_str())
 }
 
-/// A dependency, given the path that its item names.
+/// Writes one dependency of a body that lists what a port depends on, given the path that its item names.
 fn dependency_on<'a>(out: &mut Writer, edge: &'a Edge, target: &'a str) -> Result<(), AllocError>
     requires { target.now ≡ bodies.target_text edge.now.target }
     ensures { OnOk result (AddsValue out.old out.new (bodies.dependency_body edge.now)) }
@@ -87,7 +89,7 @@ fn dependency_on<'a>(out: &mut Writer, edge: &'a Edge, target: &'a str) -> Resul
     )
 }
 
-/// The path that an item names. It is empty if the item can't be read.
+/// The path that the item of a listed dependency names. It is empty if the item can't be read.
 fn target_text(alloc: Global, target: Option<&PkgPath>) -> Result<String, AllocError>
     ensures { IfTextMade result (bodies.target_text (option_copied target.entry)) }
 {
@@ -97,8 +99,8 @@ fn target_text(alloc: Global, target: Option<&PkgPath>) -> Result<String, AllocE
     }
 }
 
-/// The body that lists what depends on a port: each dependency, with the path of its port. It fails only if
-/// memory runs out.
+/// The body of a reply that lists what depends on a port: each dependency, with the path of its port. It
+/// fails only if memory runs out.
 pub fn dependents(alloc: Global, edges: &[&RootEdge]) -> Result<Vec<u8>, AllocError>
     ensures { WritesJson result (bodies.dependents_body (edges_lent edges.now)) }
 {
@@ -109,6 +111,7 @@ pub fn dependents(alloc: Global, edges: &[&RootEdge]) -> Result<Vec<u8>, AllocEr
     end_list(out)
 }
 
+/// Writes one dependency, with the path of its port, of a body that lists what depends on a port.
 fn dependent<'a>(out: &mut Writer, root: &'a str, edge: &'a Edge) -> Result<(), AllocError>
     ensures { OnOk result (AddsValue out.old out.new (bodies.dependent_of root.now edge.now)) }
 {
@@ -124,20 +127,21 @@ fn dependent<'a>(out: &mut Writer, root: &'a str, edge: &'a Edge) -> Result<(), 
     )
 }
 
-/// The body that lists the paths of ports that are reached. It fails only if memory runs out.
+/// The body of a reply that lists the paths of ports that are reached. It fails only if memory runs out.
 pub fn reached(alloc: Global, paths: &[String]) -> Result<Vec<u8>, AllocError>
     ensures { WritesJson result (bodies.reached_body (map string_bytes paths.now)) }
 {
     texts(alloc, "deps", paths)
 }
 
-/// The body that lists the paths of ports that reach one. It fails only if memory runs out.
+/// The body of a reply that lists the paths of ports that reach one. It fails only if memory runs out.
 pub fn reaching(alloc: Global, paths: &[String]) -> Result<Vec<u8>, AllocError>
     ensures { WritesJson result (bodies.reaching_body (map string_bytes paths.now)) }
 {
     texts(alloc, "rdeps", paths)
 }
 
+/// The body of a reply that lists these texts, under this name.
 fn texts(alloc: Global, name: &str, texts: &[String]) -> Result<Vec<u8>, AllocError>
     ensures { WritesJson result (bodies.texts_list name.now (map string_bytes texts.now)) }
 {
@@ -148,8 +152,8 @@ fn texts(alloc: Global, name: &str, texts: &[String]) -> Result<Vec<u8>, AllocEr
     end_list(out)
 }
 
-/// The body that lists the faults at these roots. A root without a fault adds nothing. It fails only if memory
-/// runs out.
+/// The body of a reply that lists the faults at these roots. A root without a fault adds nothing. It fails
+/// only if memory runs out.
 pub fn faults(alloc: Global, roots: &[Root<'_>]) -> Result<Vec<u8>, AllocError>
     ensures { WritesJson result (bodies.faults_body roots.now) }
 {
@@ -160,7 +164,7 @@ pub fn faults(alloc: Global, roots: &[Root<'_>]) -> Result<Vec<u8>, AllocError>
     end_list(out)
 }
 
-/// Writes the fault of a root, if it has one.
+/// Writes the fault of a root into a body that lists faults, if the root has one.
 fn add_fault(out: &mut Writer, root: &Root<'_>) -> Result<(), AllocError>
     ensures { OnOk result (AddsItems out.old out.new (option_to_list (bodies.root_fault_body root.now))) }
 {
@@ -170,6 +174,7 @@ fn add_fault(out: &mut Writer, root: &Root<'_>) -> Result<(), AllocError>
     }
 }
 
+/// Writes a fault and the path where it is into a body that lists faults.
 fn fault_at<'a>(out: &mut Writer, path: &'a str, fault: &'a Fault) -> Result<(), AllocError>
     ensures { OnOk result (AddsValue out.old out.new (bodies.fault_at_body path.now fault.now)) }
 {

@@ -1,4 +1,4 @@
-//! The routes of lists: of packages, and of faults.
+//! The routes of lists, of packages and of faults: `/v1/list`, `/v1/match` and `/v1/faults`.
 ghost use Rattle.std.specs.Prelude.{◌≡◌};
 ghost use Rattle.plain_service.specs.IndexRoutes as routes;
 ghost use Rattle.plain_service.specs.Questions as questions;
@@ -32,7 +32,7 @@ pub fn list_question(alloc: Global, query: &str) -> Result<Question, AllocError>
     }
 }
 
-/// The reply that lists the packages that meet all these conditions. It fails only if memory runs out.
+/// The reply of `/v1/list`: the packages that meet all these conditions. It fails only if memory runs out.
 pub fn list_reply(
     alloc: Global,
     index: &KnownIndex,
@@ -61,7 +61,7 @@ pub fn match_question(alloc: Global, query: &str) -> Result<Question, AllocError
     }
 }
 
-/// The reply that lists the packages that a spec admits. It fails only if memory runs out.
+/// The reply of `/v1/match`: the packages that a spec admits. It fails only if memory runs out.
 pub fn match_reply(alloc: Global, index: &KnownIndex, spec: &Spec) -> Result<Reply, AllocError>
     ensures { RepliesOver index.now result (λ world. routes.match_reply world spec.now) }
 {
@@ -75,7 +75,7 @@ pub fn match_reply(alloc: Global, index: &KnownIndex, spec: &Spec) -> Result<Rep
     packages_reply(alloc, &packages)
 }
 
-/// The reply that lists packages.
+/// The reply of `/v1/list` or `/v1/match` that lists these packages.
 fn packages_reply(alloc: Global, packages: &[Listed<'_>]) -> Result<Reply, AllocError>
     ensures { IfMade result (routes.packages_reply packages.now) }
 {
@@ -83,7 +83,7 @@ fn packages_reply(alloc: Global, packages: &[Listed<'_>]) -> Result<Reply, Alloc
     Ok(Reply::of_bytes(StatusCode::OK, Some(Content::Json), body))
 }
 
-/// The reply that lists the faults of ports and lists. It fails only if memory runs out.
+/// The reply of `/v1/faults`: the faults of ports and lists. It fails only if memory runs out.
 pub fn faults_reply(alloc: Global, index: &KnownIndex) -> Result<Reply, AllocError>
     ensures { RepliesOver index.now result (λ world. routes.faults_reply world) }
 {

@@ -1,4 +1,4 @@
-//! The parameters of a query.
+//! The parameters in the query of a request's target.
 ghost use Rattle.plain_service.specs.Parameters as parameters;
 ghost use Rattle.plain_service.specs.ParametersSeen.{GivesParameter, SaysTimes};
 ghost use Rattle.plain_service.specs.PathParameter.{path_in as path_in_query};
@@ -11,7 +11,7 @@ use ports_http::{Reply, StatusCode};
 use std::alloc::{AllocError, Global};
 use std::borrow::CowStr;
 
-/// How often a query has a parameter.
+/// How often the query of a target has a parameter.
 #[derive(Drop)]
 enum Found<'a> {
     Never,
@@ -19,8 +19,8 @@ enum Found<'a> {
     Often,
 }
 
-/// The value of the one parameter of this name, decoded. `None` if it is missing, empty or there more than
-/// once. It doesn't matter which other names the query has. It fails only if memory runs out.
+/// The value of a query's one parameter of this name, decoded. `None` if it is missing, empty or there more
+/// than once. It doesn't matter which other names the query has. It fails only if memory runs out.
 pub fn parameter<'a>(
     alloc: Global,
     query: &'a str,
@@ -34,8 +34,8 @@ pub fn parameter<'a>(
     }
 }
 
-/// The value of the one parameter of this name, decoded, and an empty text if it is missing. `None` if it is there
-/// more than once. It fails only if memory runs out.
+/// The value of a query's one parameter of this name, decoded, and an empty text if it is missing. `None` if
+/// it is there more than once. It fails only if memory runs out.
 pub fn optional<'a>(
     alloc: Global,
     query: &'a str,
@@ -50,8 +50,8 @@ pub fn optional<'a>(
     }
 }
 
-/// The package path that the parameter `path` names, or the refusal: `Parameter` if it is missing, empty or there
-/// twice, and `Path` if it is no package path. It fails only if memory runs out.
+/// The package path that the parameter `path` of a query names, or the refusal: `Parameter` if it is missing,
+/// empty or there twice, and `Path` if it is no package path. It fails only if memory runs out.
 pub fn path_in(alloc: Global, query: &str) -> Result<Result<PkgPath, Reply>, AllocError>
     ensures { IfMade result (path_in_query query.now) }
 {
@@ -65,7 +65,7 @@ pub fn path_in(alloc: Global, query: &str) -> Result<Result<PkgPath, Reply>, All
     }
 }
 
-/// How often a query has a parameter, and its value, decoded.
+/// How often a query has the parameter of this name, and its value, decoded.
 fn find<'a>(alloc: Global, query: &'a str, name: &str) -> Result<Found<'a>, AllocError>
     ensures { SaysTimes result name.now query.now }
 {

@@ -1,4 +1,4 @@
-//! The route of the search path.
+//! The route of the search path, `/v1/path`.
 ghost use Rattle.plain_service.specs.SettingAnswers.{set_path as set_path_of, set_trees as set_trees_of};
 ghost use Rattle.plain_service.specs.Requests.{reply_alone};
 ghost use Rattle.plain_service.specs.Questions as questions;
@@ -26,7 +26,7 @@ pub fn path_question(alloc: Global, method: Method, body: &[u8]) -> Result<Quest
     }
 }
 
-/// The change that sets the search path in a body, without the blanks and line feeds at its ends.
+/// The change that sets the search path in the body of a PUT, without the blanks and line feeds at its ends.
 fn set_path(alloc: Global, body: &[u8]) -> Result<Prepared, AllocError>
     ensures { Prepares result (set_path_of body.now) }
 {
@@ -36,6 +36,7 @@ fn set_path(alloc: Global, body: &[u8]) -> Result<Prepared, AllocError>
     }
 }
 
+/// The change that sets the search path that a text names, with its reply; or the refusal `Path`.
 fn set_trees(alloc: Global, text: &str) -> Result<Prepared, AllocError>
     ensures { Prepares result (set_trees_of text.now (search_path text.now)) }
 {
@@ -49,6 +50,7 @@ fn set_trees(alloc: Global, text: &str) -> Result<Prepared, AllocError>
     }
 }
 
+/// The answer to a body that names no search path: 400 `{"error":"Path"}`.
 fn bad_path(alloc: Global) -> Result<Prepared, AllocError>
     ensures { Prepares result (reply_alone bad_path_reply) }
 {

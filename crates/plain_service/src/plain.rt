@@ -1,4 +1,4 @@
-//! Requests, and what they ask.
+//! The plain service: what each request means, as the question that it asks.
 ghost use Rattle.plain_service.specs.Requests.{plain_request};
 ghost use Rattle.plain_service.specs.Questions as questions;
 ghost use Rattle.plain_service.specs.Questions.{question_of};
@@ -25,7 +25,7 @@ pub struct Plain {
 }
 
 impl Plain {
-    /// The service. It fails only if memory runs out.
+    /// The plain service, with its routes. It fails only if memory runs out.
     pub fn new(alloc: Global) -> Result<Plain, AllocError> {
         Ok(Plain {
             routes: Routes::new(alloc)?,
@@ -96,7 +96,7 @@ impl Plain {
     }
 }
 
-/// The question on a route that is asked by a query.
+/// The question of a request on a route that is asked by the query of its target.
 fn query_question(
     alloc: Global,
     route: Route,
@@ -111,7 +111,7 @@ fn query_question(
     }
 }
 
-/// The question of a GET on a route.
+/// The question of a GET request on a route that is asked by a query.
 fn get_question(alloc: Global, route: Route, query: &str) -> Result<Question, AllocError>
     ensures { IfMade result (questions.get_question query.now route) }
 {

@@ -1,4 +1,4 @@
-//! What a port is, as a JSON text.
+//! The bodies of replies that say what a port is, as JSON texts.
 ghost use Rattle.std.specs.Prelude.{◌≡◌, OnOk, codes};
 ghost use Rattle.pkg_name.specs.Name.{name_text};
 ghost use Rattle.serde_json.specs.Data.{string};
@@ -13,8 +13,8 @@ use pkg_path::PkgPath;
 use port_rules::{Depend, Package, PortRecord};
 use std::alloc::{AllocError, Global};
 
-/// The body that says what the port is that a path names. The path's subpackage doesn't count. It fails
-/// only if memory runs out.
+/// The body of the reply that says what the port is that a path names. The path's subpackage doesn't count.
+/// It fails only if memory runs out.
 pub fn port(alloc: Global, path: &PkgPath, port: &PortRecord) -> Result<Vec<u8>, AllocError>
     ensures { WritesJson result (bodies.port_body path.now port.now) }
 {
@@ -32,7 +32,7 @@ pub fn port(alloc: Global, path: &PkgPath, port: &PortRecord) -> Result<Vec<u8>,
     end_members(out)
 }
 
-/// Writes a member that is a text.
+/// Writes a member of a port's JSON text that is a text.
 fn write_text(out: &mut Writer, name: &str, text: &str) -> Result<(), AllocError>
     ensures { OnOk result (AddsMember out.old out.new name.now (string text.now)) }
 {
@@ -40,7 +40,7 @@ fn write_text(out: &mut Writer, name: &str, text: &str) -> Result<(), AllocError
     out.string(text)
 }
 
-/// Writes a member that is a list of texts.
+/// Writes a member of a port's JSON text that is a list of texts.
 fn write_texts(out: &mut Writer, name: &str, texts: &[String]) -> Result<(), AllocError>
     ensures { OnOk result (AddsMember out.old out.new name.now (bodies.strings_body texts.now)) }
 {
@@ -52,7 +52,7 @@ fn write_texts(out: &mut Writer, name: &str, texts: &[String]) -> Result<(), All
     out.end_array()
 }
 
-/// Writes the packages of a port.
+/// Writes the packages of a port into its JSON text.
 fn write_packages(alloc: Global, out: &mut Writer, packages: &[Package]) -> Result<(), AllocError>
     ensures { AddsList result out.old (codes "packages") bodies.package_body packages.now out.new }
 {
@@ -64,6 +64,7 @@ fn write_packages(alloc: Global, out: &mut Writer, packages: &[Package]) -> Resu
     out.end_array()
 }
 
+/// Writes one package of a port into its JSON text.
 fn write_package(alloc: Global, out: &mut Writer, one: &Package) -> Result<(), AllocError>
     ensures { OnOk result (AddsValue out.old out.new (bodies.package_body one.now)) }
 {
@@ -71,7 +72,7 @@ fn write_package(alloc: Global, out: &mut Writer, one: &Package) -> Result<(), A
     write_named(out, one, name.as_str())
 }
 
-/// Writes a package, given its full name.
+/// Writes one package of a port into its JSON text, given the package's full name.
 fn write_named<'a>(out: &mut Writer, one: &'a Package, name: &'a str) -> Result<(), AllocError>
     requires { name.now ≡ name_text one.now.name }
     ensures { OnOk result (AddsValue out.old out.new (bodies.package_body one.now)) }
@@ -86,7 +87,7 @@ fn write_named<'a>(out: &mut Writer, one: &'a Package, name: &'a str) -> Result<
     )
 }
 
-/// Writes what a port depends on.
+/// Writes the dependencies of a port into its JSON text.
 fn write_depends(out: &mut Writer, depends: &[Depend]) -> Result<(), AllocError>
     ensures { AddsList result out.old (codes "depends") bodies.depend_body depends.now out.new }
 {
@@ -98,6 +99,7 @@ fn write_depends(out: &mut Writer, depends: &[Depend]) -> Result<(), AllocError>
     out.end_array()
 }
 
+/// Writes one dependency of a port into its JSON text.
 fn write_depend(out: &mut Writer, one: &Depend) -> Result<(), AllocError>
     ensures { OnOk result (AddsValue out.old out.new (bodies.depend_body one.now)) }
 {

@@ -1,4 +1,4 @@
-//! What is asked of one port, by the evaluation of its makefile.
+//! The routes about one port, `/v1/var` and `/v1/port`, which are answered by the evaluation of its makefile.
 ghost use Rattle.std.specs.Prelude.{◌≡◌, Ok, string_bytes};
 ghost use Rattle.mk_eval.specs.declared.outcome.Kind.{Kind};
 ghost use Rattle.plain_service.specs.Answers.{reply_after};
@@ -21,7 +21,7 @@ use ports_http::{Reply, StatusCode};
 use std::alloc::{AllocError, Global};
 use std::marker::Model;
 
-/// What is asked of one port.
+/// What a request asks of one port, by the evaluation of its makefile.
 #[derive(Drop)]
 pub enum PortQuestion {
     /// The value of a variable.
@@ -61,7 +61,7 @@ pub fn port_question(alloc: Global, query: &str) -> Result<Question, AllocError>
 }
 
 impl PortQuestion {
-    /// The path of the port.
+    /// The path of the port that the question is about.
     pub fn path(&self) -> &PkgPath
         ensures { result.now ≡ costs.path_asked self.now }
     {
@@ -71,8 +71,9 @@ impl PortQuestion {
         }
     }
 
-    /// The reply once the port's makefile is evaluated, and the units of the evaluation and of what is asked. If the
-    /// evaluation ended with a fault, nothing more is spent. It fails only if memory runs out.
+    /// The reply to the question about a port once its makefile is evaluated, and the units of the evaluation
+    /// and of what is asked. If the evaluation ended with a fault, nothing more is spent. It fails only if
+    /// memory runs out.
     pub fn reply(
         &self,
         alloc: Global,
@@ -93,14 +94,15 @@ impl PortQuestion {
     }
 }
 
-/// The reply if a port's makefile isn't there: 404 `{"error":"NoPort"}`. It fails only if memory runs out.
+/// The reply to a question about a port whose makefile isn't there: 404 `{"error":"NoPort"}`. It fails only
+/// if memory runs out.
 pub fn no_port(alloc: Global) -> Result<Reply, AllocError>
     ensures { IfMade result no_port_reply }
 {
     refusal(alloc, StatusCode::NOT_FOUND, "NoPort")
 }
 
-/// The reply with the value of a variable of an evaluated makefile, and the units of both.
+/// The reply of `/v1/var` with the value of a variable of an evaluated makefile, and the units of both.
 fn value_reply(
     alloc: Global,
     evaluated: &Evaluated,
@@ -119,7 +121,8 @@ fn value_reply(
     Ok((reply, evaluated.cost.saturating_add(more)))
 }
 
-/// The reply with the record of an evaluated makefile, if it describes a port, and the units of both.
+/// The reply of `/v1/port` with the record of an evaluated makefile, if it describes a port, and the units of
+/// both.
 fn record_reply(
     alloc: Global,
     evaluated: &Evaluated,
@@ -135,7 +138,7 @@ fn record_reply(
     }
 }
 
-/// The reply with the record of a port, and the units of its evaluation and of the record.
+/// The reply of `/v1/port` with the record of a port, and the units of its evaluation and of the record.
 fn described(
     alloc: Global,
     evaluated: &Evaluated,
@@ -153,7 +156,7 @@ fn described(
     Ok((reply, evaluated.cost.saturating_add(more)))
 }
 
-/// The reply with a port, which must have the subpackage, if its path names one.
+/// The reply of `/v1/port` with a port, which must have the subpackage, if its path names one.
 fn port_reply(alloc: Global, path: &PkgPath, found: &PortRecord) -> Result<Reply, AllocError>
     ensures { IfMade result (replies.port_told path.now found.now) }
 {
@@ -164,7 +167,7 @@ fn port_reply(alloc: Global, path: &PkgPath, found: &PortRecord) -> Result<Reply
     }
 }
 
-/// Whether a port has the package that a path names, if it names one.
+/// Whether a port has the package that the path in a question names, if it names one.
 pub fn has_named(path: &PkgPath, port: &PortRecord) -> bool
     ensures { result ≡ has_named_in path.now.subpackage port.now }
 {
@@ -191,21 +194,21 @@ impl Model for VariableQuestion {
 }
 
 impl VariableQuestion {
-    /// The question about this variable.
+    /// The question about this variable of the port at this path.
     fn new(path: PkgPath, name: String) -> VariableQuestion
         ensures { result ≡ record { path = path; name = string_bytes name } }
     {
         VariableQuestion { path, name }
     }
 
-    /// The path of the port.
+    /// The path of the port whose variable is asked for.
     pub fn path(&self) -> &PkgPath
         ensures { result.now ≡ self.now.path }
     {
         &self.path
     }
 
-    /// The name of the variable, which is taken as it is.
+    /// The name of the variable that is asked for, which is taken as it is.
     pub fn name(&self) -> &str
         ensures { result.now ≡ self.now.name }
     {

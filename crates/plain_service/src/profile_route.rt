@@ -1,4 +1,4 @@
-//! The route of the profile.
+//! The route of the profile, `/v1/profile`.
 ghost use Rattle.std.specs.Prelude.{◌≡◌};
 ghost use Rattle.plain_service.specs.SettingAnswers.{profile_named, set_profile as set_profile_of};
 ghost use Rattle.plain_service.specs.Questions as questions;
@@ -24,7 +24,8 @@ pub fn profile_question(alloc: Global, method: Method, body: &[u8]) -> Result<Qu
     }
 }
 
-/// The change that sets the profile whose number a body is, without the blanks and line feeds at its ends.
+/// The change that sets the profile whose number the body of a PUT is, without the blanks and line feeds at
+/// its ends.
 fn set_profile(alloc: Global, body: &[u8]) -> Result<Prepared, AllocError>
     ensures { Prepares result (set_profile_of body.now) }
 {
@@ -40,7 +41,7 @@ fn set_profile(alloc: Global, body: &[u8]) -> Result<Prepared, AllocError>
     }
 }
 
-/// The profile that a text is the number of.
+/// The profile of which the body of a PUT is the number.
 fn profile_named(text: &[u8]) -> Option<Profile>
     ensures { result ≡ profile_named text.now }
 {

@@ -1,4 +1,4 @@
-//! What a request asks of a world.
+//! Questions: what a request asks of a tenant's world.
 ghost use Rattle.std.specs.Prelude.{◌≡◌};
 ghost use Rattle.plain_service.specs.Questions as questions;
 ghost use Rattle.plain_service.specs.Replies.{refusal as refusal_of};
@@ -27,14 +27,14 @@ pub enum Question {
 }
 
 impl Question {
-    /// What is answered by this reply alone, over every world.
+    /// The question of a request that is answered by this reply alone, over every world.
     pub(crate) fn settled(reply: Reply) -> Question
         ensures { result ≡ questions.refused_question reply }
     {
         Question::Settled(Prepared::reply_alone(reply))
     }
 
-    /// What is answered by a refusal, over every world.
+    /// The question of a request that is answered by a refusal, over every world.
     pub(crate) fn refused(
         alloc: Global,
         status: StatusCode,

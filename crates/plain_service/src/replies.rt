@@ -1,4 +1,4 @@
-//! The replies of the service.
+//! The replies of the plain service to questions, and its refusals.
 ghost use Rattle.std.specs.Prelude.{◌≡◌, false};
 ghost use Rattle.std.specs.Option.{option_copied};
 ghost use Rattle.serde_json.specs.View.{view};
@@ -20,7 +20,7 @@ use ports_http::{Content, Reply, StatusCode};
 use serde_json::Value;
 use std::alloc::{AllocError, Global};
 
-/// The reply of this status with a JSON value. It fails only if memory runs out.
+/// The reply of this status whose body is a JSON value. It fails only if memory runs out.
 pub fn json_reply(alloc: Global, status: StatusCode, value: &Value) -> Result<Reply, AllocError>
     requires { has_float (view value.now) ≡ false }
     ensures { IfMade result (json_reply_of status (view value.now)) }
@@ -29,7 +29,7 @@ pub fn json_reply(alloc: Global, status: StatusCode, value: &Value) -> Result<Re
     Ok(Reply::of_bytes(status, Some(Content::Json), text.into_bytes()))
 }
 
-/// The refusal of this status, by its word. It fails only if memory runs out.
+/// The reply of this status that refuses a request by this word. It fails only if memory runs out.
 pub fn refusal(alloc: Global, status: StatusCode, word: &str) -> Result<Reply, AllocError>
     ensures { IfMade result (refusal_of status word.now) }
 {
@@ -37,7 +37,8 @@ pub fn refusal(alloc: Global, status: StatusCode, word: &str) -> Result<Reply, A
     json_reply(alloc, status, &body)
 }
 
-/// The refusal of a method that the route doesn't have, with the methods that it has. It fails only if memory runs out.
+/// The reply to a method that the route doesn't have, 405 with the methods that it has. It fails only if
+/// memory runs out.
 pub fn not_allowed(alloc: Global, route: Route) -> Result<Reply, AllocError>
     ensures { IfMade result (not_allowed_on route) }
 {
@@ -54,7 +55,7 @@ pub fn full(alloc: Global) -> Result<Reply, AllocError>
     refusal(alloc, StatusCode::CONFLICT, "Full")
 }
 
-/// The reply about a makefile at fault: 422. It fails only if memory runs out.
+/// The reply about a makefile at fault: 422 with the fault. It fails only if memory runs out.
 pub fn faulty(alloc: Global, fault: &Fault) -> Result<Reply, AllocError>
     ensures { IfMade result (faulty_at fault.now) }
 {
@@ -62,7 +63,7 @@ pub fn faulty(alloc: Global, fault: &Fault) -> Result<Reply, AllocError>
     json_reply(alloc, StatusCode::UNPROCESSABLE_ENTITY, &body)
 }
 
-/// The reply with the content of a file. It fails only if memory runs out.
+/// The reply with the content of a file, 200. It fails only if memory runs out.
 pub fn file_shown(alloc: Global, content: &[u8]) -> Result<Reply, AllocError>
     ensures { IfMade result (file_shown_as content.now) }
 {
@@ -70,7 +71,7 @@ pub fn file_shown(alloc: Global, content: &[u8]) -> Result<Reply, AllocError>
     Ok(Reply::of_bytes(StatusCode::OK, Some(Content::Octets), body))
 }
 
-/// The reply that a file was stored. It fails only if memory runs out.
+/// The reply that a file was stored, 200. It fails only if memory runs out.
 pub fn stored(alloc: Global) -> Result<Reply, AllocError>
     ensures { IfMade result stored_reply }
 {
@@ -78,7 +79,7 @@ pub fn stored(alloc: Global) -> Result<Reply, AllocError>
     json_reply(alloc, StatusCode::OK, &body)
 }
 
-/// The reply that a file was removed. It fails only if memory runs out.
+/// The reply that a file was removed, 200. It fails only if memory runs out.
 pub fn removed(alloc: Global) -> Result<Reply, AllocError>
     ensures { IfMade result removed_reply }
 {
@@ -86,7 +87,7 @@ pub fn removed(alloc: Global) -> Result<Reply, AllocError>
     json_reply(alloc, StatusCode::OK, &body)
 }
 
-/// The reply that the search path was set. It fails only if memory runs out.
+/// The reply that the search path was set, 200. It fails only if memory runs out.
 pub fn path_set(alloc: Global, path: &str) -> Result<Reply, AllocError>
     ensures { IfMade result (path_set_to path.now) }
 {
@@ -94,7 +95,7 @@ pub fn path_set(alloc: Global, path: &str) -> Result<Reply, AllocError>
     json_reply(alloc, StatusCode::OK, &body)
 }
 
-/// The reply that the profile was set. It fails only if memory runs out.
+/// The reply that the profile was set, 200. It fails only if memory runs out.
 pub fn profile_set(alloc: Global, profile: Profile) -> Result<Reply, AllocError>
     ensures { IfMade result (profile_set_to profile) }
 {
@@ -102,7 +103,7 @@ pub fn profile_set(alloc: Global, profile: Profile) -> Result<Reply, AllocError>
     json_reply(alloc, StatusCode::OK, &body)
 }
 
-/// The reply with the value of a variable, or that it isn't defined. It fails only if memory runs out.
+/// The reply with the value of a variable, or that it isn't defined, 200. It fails only if memory runs out.
 pub fn variable(alloc: Global, value: Option<&str>) -> Result<Reply, AllocError>
     ensures { IfMade result (variable_reply (option_copied value.entry)) }
 {
@@ -110,7 +111,7 @@ pub fn variable(alloc: Global, value: Option<&str>) -> Result<Reply, AllocError>
     json_reply(alloc, StatusCode::OK, &body)
 }
 
-/// The reply with what the port is that a path names. It fails only if memory runs out.
+/// The reply with what the port is that a path names, 200. It fails only if memory runs out.
 pub fn port(alloc: Global, path: &PkgPath, port: &PortRecord) -> Result<Reply, AllocError>
     ensures { IfMade result (port_shown path.now port.now) }
 {

@@ -1,4 +1,4 @@
-//! The routes of the service.
+//! The routes of the service: their paths, each with its methods.
 ghost use Rattle.std.specs.Prelude.{◌≡◌, OnOk, Ok};
 ghost use Rattle.matchit.specs.Route.{parse_route};
 ghost use Rattle.matchit.specs.Router.{InsertsRead};
@@ -10,7 +10,7 @@ use ports_http::Method;
 use refusals::{Library, OutOfMemory};
 use std::alloc::{AllocError, Global};
 
-/// What a path of the service is about.
+/// A route of the service: what the path of a request's target is about.
 #[derive(Clone, Copy, Debug, PartialEq, Eq)]
 pub enum Route {
     /// `/v1/deps`: what a port depends on.
@@ -36,7 +36,7 @@ pub enum Route {
 }
 
 impl Route {
-    /// The methods that the route has (RFC 9110, section 9.1).
+    /// The methods of requests that the route has (RFC 9110, section 9.1).
     pub(crate) fn methods(self) -> &'static [Method]
         ensures { result.now ≡ methods_of self }
     {
@@ -56,7 +56,7 @@ pub struct Routes {
 }
 
 impl Routes {
-    /// The routes, in the order of their paths' bytes. It fails only if memory runs out.
+    /// The routes of the service, in the order of their paths' bytes. It fails only if memory runs out.
     pub fn new(alloc: Global) -> Result<Routes, AllocError> {
         let mut router = Router::new(alloc);
         add(&mut router, "/v1/deps", Route::Deps)?;
@@ -72,7 +72,8 @@ impl Routes {
         Ok(Routes { router })
     }
 
-    /// The route of a path, which is compared as it is written. `None` if there is no such route.
+    /// The route of the path of a request's target, which is compared as it is written. `None` if there is no
+    /// such route.
     pub fn find(&self, path: &str) -> Option<Route>
         ensures { result ≡ route_of path.now }
     {
@@ -94,12 +95,13 @@ impl Library for Matchit {
 
     ghost for_memory = { λ error. error ≡ OutOfMemory };
 
+    /// Whether the router refused a route since memory ran out.
     fn is_for_memory(error: &InsertError) -> bool {
         matches!(error, InsertError::OutOfMemory)
     }
 }
 
-/// Adds a route that reads well and conflicts with no earlier one.
+/// Adds a route of the service that reads well and conflicts with no earlier one.
 fn add(router: &mut Router<Route>, path: &str, route: Route) -> Result<(), AllocError>
     requires { IsFree path.now router.old }
     ensures { OnOk result (InsertsRead (parse_route path.now) route router.old router.new (Ok tt)) }

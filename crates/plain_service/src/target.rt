@@ -2,7 +2,7 @@
 ghost use Rattle.std.specs.Prelude.{◌≡◌};
 ghost use Rattle.plain_service.specs.Target.{local_part, path_of_target, query_of};
 
-/// The target without scheme and host.
+/// The target of a request without scheme and host.
 pub fn without_host(target: &str) -> &str
     ensures { result.now ≡ local_part target.now }
 {
@@ -15,8 +15,8 @@ pub fn without_host(target: &str) -> &str
     }
 }
 
-/// The path, which ends at the first question mark, and the query after that mark. Without a mark the query
-/// is empty.
+/// The path of a request's target, which ends at the first question mark, and the query after that mark.
+/// Without a mark the query is empty.
 pub fn path_and_query(target: &str) -> (&str, &str)
     ensures path { result.0.now ≡ path_of_target target.now }
     ensures query { result.1.now ≡ query_of target.now }

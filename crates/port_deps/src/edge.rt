@@ -1,4 +1,4 @@
-//! Dependencies of ports on ports.
+//! Edges: the dependencies of ports, each with its status.
 ghost use Rattle.std.specs.Prelude.{◌≡◌};
 ghost use Rattle.std.specs.Option.{option_copied};
 ghost use Rattle.port_deps.specs.Edges as edges;
@@ -11,7 +11,7 @@ use pkg_path::PkgPath;
 use port_rules::DependKind;
 use std::marker::Model;
 
-/// A dependency of a port: an item, with the status that it gets from the port at its path.
+/// An edge, which is a dependency of a port: an item, with the status that it gets from the port at its path.
 #[derive(Debug, Drop)]
 pub struct Edge {
     kind: DependKind,
@@ -37,14 +37,14 @@ impl Model for Edge {
 }
 
 impl Edge {
-    /// What the port needs it for.
+    /// The kind of the edge: what the port needs the dependency for.
     pub fn kind(&self) -> DependKind
         ensures { result ≡ self.now.kind }
     {
         self.kind
     }
 
-    /// The package that needs it, with its dash; empty if it is the port as a whole, to be
+    /// The package of the port that has the edge, with its dash; empty if it is the port as a whole, to be
     /// built or tested.
     pub fn subpackage(&self) -> &str
         ensures { result.now ≡ self.now.subpackage }
@@ -52,14 +52,14 @@ impl Edge {
         self.subpackage.as_str()
     }
 
-    /// The item as it is written.
+    /// The item of the edge, as it is written.
     pub fn item(&self) -> &str
         ensures { result.now ≡ self.now.item }
     {
         self.item.as_str()
     }
 
-    /// The path that the item names, with its flavors and its subpackage; `None` if the item
+    /// The path that the item of the edge names, with its flavors and its subpackage; `None` if the item
     /// can't be read.
     pub fn target(&self) -> Option<&PkgPath>
         ensures { option_copied result ≡ self.now.target }
@@ -67,7 +67,7 @@ impl Edge {
         self.target.as_ref()
     }
 
-    /// Whether the item is met.
+    /// The status of the edge: whether its item is met.
     pub fn status(&self) -> Status
         ensures { result ≡ self.now.status }
     {
@@ -75,7 +75,7 @@ impl Edge {
     }
 }
 
-/// The dependency that an item is, by what is found at its path, with the flavors of that path.
+/// The edge of an item, by what is found at the item's path, with the flavors of that path.
 ///
 /// Its status is the first that fits. It is `BadItem` if the item can't be read. It is `NoPort` if
 /// nothing is found. It is `BadFlavor` if the fault is that of a flavor that isn't the port's, and
@@ -102,7 +102,7 @@ pub fn resolve(item: Item, found: Found<'_>) -> Edge
     }
 }
 
-/// The path that an item names.
+/// The path that the item of an edge names, if the item can be read.
 fn target_of(wanted: Option<Wanted>) -> Option<PkgPath>
     ensures { result ≡ edges.wanted_path wanted }
 {

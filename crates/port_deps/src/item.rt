@@ -1,4 +1,4 @@
-//! The items that a port depends on.
+//! The items of a port: its dependencies as the makefile writes them.
 ghost use Rattle.std.specs.Prelude.{◌≡◌, map, IfOk};
 ghost use Rattle.std.specs.Option.{option_copied};
 ghost use Rattle.port_deps.specs.Items as items;
@@ -28,7 +28,7 @@ impl Model for Item {
 }
 
 impl Item {
-    /// The item that a dependency is.
+    /// The item of a dependency, read from the dependency's text.
     fn of(alloc: Global, depend: &Depend) -> Result<Item, AllocError>
         ensures { IfOk result (λ item. item ≡ items.item_of depend.now) }
     {
@@ -40,14 +40,14 @@ impl Item {
         })
     }
 
-    /// What the port needs it for.
+    /// The kind of the item: what the port needs it for.
     pub fn kind(&self) -> DependKind
         ensures { result ≡ self.now.kind }
     {
         self.kind
     }
 
-    /// The package that needs it, with its dash; empty if it is the port as a whole, to be
+    /// The package of the port that needs the item, with its dash; empty if it is the port as a whole, to be
     /// built or tested.
     pub fn subpackage(&self) -> &str
         ensures { result.now ≡ self.now.subpackage }
@@ -55,14 +55,14 @@ impl Item {
         self.subpackage.as_str()
     }
 
-    /// The item as it is written.
+    /// The text of the item, as it is written.
     pub fn text(&self) -> &str
         ensures { result.now ≡ self.now.text }
     {
         self.text.as_str()
     }
 
-    /// What it asks for; `None` if it can't be read.
+    /// What the item asks for; `None` if its text can't be read.
     pub fn wanted(&self) -> Option<&Wanted>
         ensures { option_copied result ≡ self.now.wanted }
     {
@@ -70,7 +70,7 @@ impl Item {
     }
 }
 
-/// The items of a port, in the order of its dependencies.
+/// The items of a port's record, in the order of its dependencies.
 ///
 /// An item is `[pkgspec:]pkgpath[:target]`. Empty parts that come first are dropped. If there are two
 /// parts, the first is a spec if it has no slash, or has `*` or `|`. A path ends before its first `<`,

@@ -1,4 +1,4 @@
-//! How the text of an item is read.
+//! How the text of an item is read: cut at colons into a spec, a path with versions, and a target.
 ghost use Rattle.std.specs.Prelude.{◌≡◌, ◌==◌, ◌++◌, ◌∷◌, ℕ, List, false, IfOk, codes, option_map, position};
 ghost use Rattle.std.specs.List.{list_any};
 ghost use Rattle.std.specs.Option.{option_copied};
@@ -10,7 +10,7 @@ use pkg_path::PkgPath;
 use pkg_spec::{Spec, SpecFault};
 use std::alloc::{AllocError, Global};
 
-/// The parts of an item that say what it asks for, not read yet.
+/// The parts of an item's text that say what the item asks for, not read yet.
 #[derive(Drop)]
 pub(crate) struct Parts<'a> {
     pub(crate) spec: Option<&'a str>,
@@ -28,8 +28,8 @@ pub fn read_wanted(alloc: Global, text: &str) -> Result<Option<Wanted>, AllocErr
     }
 }
 
-/// Whether a text has a comma. If an item has none, the path that it names has none, and so chooses no flavors. It takes no
-/// memory.
+/// Whether the text of an item has a comma. If it has none, the path that the item names has none, and so
+/// chooses no flavors. It takes no memory.
 pub fn has_comma(text: &str) -> bool
     ensures has { result ≡ item_text.has_comma text.now }
     ensures plain { result ≡ false → item_text.NamesPlainPath text.now }
@@ -37,7 +37,7 @@ pub fn has_comma(text: &str) -> bool
     holds(text, b',')
 }
 
-/// An item without the colons that come first.
+/// The text of an item without the colons that come first.
 fn behind_colons(text: &str) -> &str
     ensures parts { item_text.parts_of_item result.now ≡ item_text.parts_of_item text.now }
     ensures begins { BeginsWithNoColon result.now }
@@ -49,7 +49,8 @@ fn behind_colons(text: &str) -> &str
     left
 }
 
-/// Which of an item's parts say what it asks for; `None` if there are none or more than three.
+/// The parts of an item's text that say what the item asks for, a spec and a path; `None` if there are none
+/// or more than three.
 fn named_parts(text: &str) -> Option<Parts<'_>>
     requires { BeginsWithNoColon text.now }
     ensures { option_map parts_seen result ≡ item_text.named_parts (item_text.parts_of_item text.now) }
@@ -66,7 +67,7 @@ fn named_parts(text: &str) -> Option<Parts<'_>>
     }
 }
 
-/// The same of a first part and of others, which colons separate.
+/// The spec and the path in the text of an item, given its first part and the others, which colons separate.
 fn of_more<'a>(first: &'a str, others: &'a str) -> Option<Parts<'a>>
     ensures { option_map parts_seen result
         ≡ item_text.named_parts (first.now ∷ item_text.cut_at_colons others.now) }
@@ -81,7 +82,7 @@ fn of_more<'a>(first: &'a str, others: &'a str) -> Option<Parts<'a>>
     }
 }
 
-/// The same of two parts: the second is a target if the first is no spec.
+/// The spec and the path in an item of two parts: the second part is a target if the first is no spec.
 fn of_two<'a>(first: &'a str, second: &'a str) -> Parts<'a>
     ensures { parts_seen result ≡ item_text.of_two first.now second.now }
 {
@@ -98,21 +99,21 @@ fn of_two<'a>(first: &'a str, second: &'a str) -> Parts<'a>
     }
 }
 
-/// Whether the first of two parts is a spec.
+/// Whether the first of an item's two parts is a spec.
 fn is_spec(part: &str) -> bool
     ensures { result ≡ item_text.is_spec part.now }
 {
     !holds(part, b'/') || holds(part, b'*') || holds(part, b'|')
 }
 
-/// Whether a byte is in a text.
+/// Whether a byte is in a part of an item's text.
 fn holds(text: &str, wanted: u8) -> bool
     ensures { result ≡ list_any (λ byte. byte == wanted) text.now }
 {
     text.bytes().any(|byte| byte == wanted)
 }
 
-/// What these parts ask for; `None` if they can't be read.
+/// What an item asks for that has this spec and this path; `None` if they can't be read.
 fn wanted_in(alloc: Global, spec: Option<&str>, path: &str) -> Result<Option<Wanted>, AllocError>
     ensures { IfOk result (λ wanted. wanted
         ≡ item_text.wanted_in (record { spec = option_copied spec.entry; path = path.now })) }
@@ -129,7 +130,7 @@ fn wanted_in(alloc: Global, spec: Option<&str>, path: &str) -> Result<Option<Wan
     }
 }
 
-/// What a path and a spec ask for; `None` if the spec can't be read.
+/// What an item asks for by its path and its spec; `None` if the spec can't be read.
 fn with_spec(path: PkgPath, spec: Option<Spec>) -> Option<Wanted>
     ensures { result ≡ option_map (λ (spec : List ℕ). record { path = path; spec = spec }) spec }
 {
@@ -139,7 +140,7 @@ fn with_spec(path: PkgPath, spec: Option<Spec>) -> Option<Wanted>
     }
 }
 
-/// A path, and the versions after it.
+/// The path in an item's text, and the versions after it.
 fn cut_at_sign(text: &str) -> (&str, &str)
     ensures path { result.0.now ≡ (item_text.at_sign text.now).before }
     ensures versions { result.1.now ≡ (item_text.at_sign text.now).behind }
@@ -150,28 +151,28 @@ fn cut_at_sign(text: &str) -> (&str, &str)
     }
 }
 
-/// The index of the first sign of a comparison.
+/// The index in an item's text of the first sign of a comparison.
 fn sign_in(text: &str) -> Option<usize>
     ensures { result ≡ position item_text.is_sign text.now }
 {
     text.bytes().position(|byte| is_sign(byte))
 }
 
-/// Whether a byte begins the sign of a comparison.
+/// Whether a byte begins the sign of a comparison of versions in an item's text.
 fn is_sign(byte: u8) -> bool
     ensures { result ≡ item_text.is_sign byte }
 {
     matches!(byte, b'<' | b'>' | b'=')
 }
 
-/// The spec of these versions of any stem, if they are read as one.
+/// The spec of the versions after an item's path, of any stem; `None` if they are no spec.
 fn read_versions(alloc: Global, versions: &str) -> Result<Option<Spec>, AllocError>
     ensures { IfOk result (λ spec. spec ≡ item_text.spec_if_one (codes "STEM-" ++ versions.now)) }
 {
     read_spec(alloc, format!(in alloc; "STEM-{versions}")?.as_str())
 }
 
-/// The spec that a text is, if it is one.
+/// The spec that a text in an item is; `None` if it is no spec.
 fn read_spec(alloc: Global, text: &str) -> Result<Option<Spec>, AllocError>
     ensures { IfOk result (λ spec. spec ≡ item_text.spec_if_one text.now) }
 {

@@ -1,5 +1,5 @@
-//! What ports depend on: what their items ask for, whether that is there, and the lists of ports and of
-//! dependencies that a ports tree has.
+//! What ports depend on: what their items ask for, whether that is there (the status of each edge), and the
+//! entries in the lists of roots and edges of a ports tree.
 #![tactic(auto)]
 
 mod edge;

@@ -1,4 +1,4 @@
-//! The ports of a ports tree and their dependencies, as lists that are asked.
+//! The roots of a ports tree, and their edges: the entries of the lists about which questions are asked.
 ghost use Rattle.std.specs.Prelude.{◌≡◌, string_bytes};
 ghost use Rattle.port_deps.specs.Roots.{state_lent};
 
@@ -7,7 +7,7 @@ use mk_base::Fault;
 use port_rules::PortRecord;
 use std::marker::Model;
 
-/// A port of a ports tree, or a directory of it whose makefile has a fault. All of it is lent.
+/// A root of a ports tree: a port of it, or a directory of it whose makefile has a fault. All of it is lent.
 #[derive(Debug, Drop)]
 pub struct Root<'a> {
     path: &'a str,
@@ -23,21 +23,22 @@ impl<'a> Model for Root<'a> {
 }
 
 impl<'a> Root<'a> {
-    /// What is found at this canonical path.
+    /// The root at this canonical path: the port, or the fault, that is found there.
     pub fn new(path: &'a str, state: Result<&'a PortRecord, &'a Fault>) -> Root<'a>
         ensures { result ≡ record { path = path.now; state = state_lent state.entry } }
     {
         Root { path, state }
     }
 
-    /// Its path, in the canonical form and without a subpackage; `.` for the trees' own directory.
+    /// The path of the root, in the canonical form and without a subpackage; `.` for the trees' own
+    /// directory.
     pub fn path(&self) -> &'a str
         ensures { result.now ≡ self.now.path }
     {
         self.path
     }
 
-    /// The port, or the fault of its makefile or of its record.
+    /// The state of the root: the port, or the fault of its makefile or of its record.
     pub fn state(&self) -> Result<&'a PortRecord, &'a Fault>
         ensures { state_lent result ≡ self.now.state }
     {
@@ -45,7 +46,7 @@ impl<'a> Root<'a> {
     }
 }
 
-/// A dependency of a port of a ports tree.
+/// An edge of a root: a dependency of a port of a ports tree, with the path of that port.
 #[derive(Debug, Drop)]
 pub struct RootEdge {
     root: String,
@@ -62,21 +63,21 @@ impl Model for RootEdge {
 }
 
 impl RootEdge {
-    /// A dependency of the port at this canonical path.
+    /// The edge of the root at this canonical path.
     pub fn new(root: String, edge: Edge) -> RootEdge
         ensures { result ≡ record { root = string_bytes root; edge = edge } }
     {
         RootEdge { root, edge }
     }
 
-    /// The path of the port that depends, in the canonical form and without a subpackage.
+    /// The path of the root that has the edge, in the canonical form and without a subpackage.
     pub fn root(&self) -> &str
         ensures { result.now ≡ self.now.root }
     {
         self.root.as_str()
     }
 
-    /// What it depends on.
+    /// The edge of the root: the dependency with its status.
     pub fn edge(&self) -> &Edge
         ensures { result.now ≡ self.now.edge }
     {

@@ -1,4 +1,4 @@
-//! Whether what an item asks for is there.
+//! The statuses of edges: whether what an item asks for is there.
 ghost use Rattle.std.specs.Prelude.{◌≡◌, find};
 ghost use Rattle.std.specs.Option.{option_copied};
 ghost use Rattle.std.specs.Str.{bytes_eq};
@@ -23,7 +23,7 @@ pub enum Found<'a> {
     Port(&'a PortRecord),
 }
 
-/// Whether an item is met by the port that its path names.
+/// The status of an edge: whether its item is met by the port that the item's path names.
 #[derive(Clone, Copy, Debug, PartialEq, Eq)]
 pub enum Status {
     /// The item can't be read.
@@ -43,7 +43,7 @@ pub enum Status {
 }
 
 impl Status {
-    /// The word for it: the name of the variant.
+    /// The word for the status of an edge: the name of the variant.
     pub fn as_str(self) -> &'static str
         ensures { result.now ≡ statuses.word_of_status self }
     {
@@ -59,7 +59,7 @@ impl Status {
     }
 }
 
-/// The status of an item by what is found at its path; `None` is an item that can't be read.
+/// The status of an item by what is found at the item's path; `None` is an item that can't be read.
 pub(crate) fn status_of(wanted: Option<&Wanted>, found: Found<'_>) -> Status
     ensures { result ≡ statuses.status_of (option_copied wanted.entry) (found_seen found.entry) }
 {
@@ -85,7 +85,7 @@ fn status_at(wanted: &Wanted, port: &PortRecord) -> Status
     }
 }
 
-/// The package of a port that a path with this subpackage, or with none, means.
+/// The package of a port that an item's path with this subpackage, or with none, means.
 fn package_meant<'a>(port: &'a PortRecord, subpackage: Option<&str>) -> Option<&'a Package>
     ensures { option_copied result
         ≡ statuses.package_meant port.now (option_copied subpackage.entry) }
@@ -100,7 +100,7 @@ fn package_meant<'a>(port: &'a PortRecord, subpackage: Option<&str>) -> Option<&
     }
 }
 
-/// The package of this name.
+/// The package of a port that has this name, with its dash.
 fn package_named<'a>(packages: &'a [Package], name: &str) -> Option<&'a Package>
     ensures { option_copied result
         ≡ find (λ (found : PackageValue). bytes_eq found.subpackage name.now) packages.now }

@@ -1,4 +1,4 @@
-//! The paths of rows, by the names of the files for which they asked.
+//! The names of the files for which rows asked, each with the paths of these rows.
 ghost use Rattle.std.specs.Prelude.{◌≡◌, true, false, ℕ, List, None, OnOk, OnErr, string_bytes};
 ghost use Rattle.std.specs.BTreeMap.{get_by_text};
 ghost use Rattle.std.specs.BTreeSet.{contains_text};
@@ -11,7 +11,7 @@ ghost use Rattle.port_index.specs.AskedNames.{KeepsNotes, KeepsOtherNotes};
 use std::alloc::{AllocError, Global};
 use std::collections::{BTreeMap, BTreeSet};
 
-/// The paths of rows, noted with each name of a file for which a row asked.
+/// The names of files for which rows asked, each with the paths of the rows that asked.
 #[derive(Debug, Drop)]
 pub(crate) struct AskedNames {
     alloc: Global,
@@ -19,7 +19,7 @@ pub(crate) struct AskedNames {
 }
 
 impl AskedNames {
-    /// Nothing is noted. It takes no memory.
+    /// No names for which a row asked. It takes no memory.
     pub(crate) fn new(alloc: Global) -> AskedNames
         ensures { (name path : List ℕ) → is_noted result name path ≡ false }
     {
@@ -29,7 +29,7 @@ impl AskedNames {
         }
     }
 
-    /// Notes a path with a name. If memory runs out, nothing changes.
+    /// Notes the path of a row with a name for which the row asked. If memory runs out, nothing changes.
     pub(crate) fn add(&mut self, name: &str, path: &str) -> Result<(), AllocError>
         ensures ok { OnOk result (AddsNote name.now path.now self.old self.new) }
         ensures err { OnErr result (NotesSame (is_noted self.old) (is_noted self.new)) }
@@ -40,7 +40,7 @@ impl AskedNames {
         }
     }
 
-    /// Notes a path with a name that has none yet. If memory runs out, nothing changes.
+    /// Notes the path of a row with a name for which no other row asked. If memory runs out, nothing changes.
     fn add_first(&mut self, name: &str, path: &str) -> Result<(), AllocError>
         requires { get_by_text self.old.paths name.now ≡ None }
         ensures ok { OnOk result (AddsNote name.now path.now self.old self.new) }
@@ -55,7 +55,7 @@ impl AskedNames {
         }
     }
 
-    /// Forgets a path that is noted with a name, if it is.
+    /// Forgets the path of a row that is noted with a name for which the row asked, if it is.
     pub(crate) fn remove(&mut self, name: &str, path: &str)
         ensures { NotesOneLess name.now path.now (is_noted self.old) (is_noted self.new) }
     {
@@ -64,7 +64,8 @@ impl AskedNames {
         }
     }
 
-    /// The same, and whether no other is noted with that name.
+    /// Forgets the path of a row that is noted with a name, and says whether no other path is noted with that
+    /// name.
     fn leaves_none(&mut self, name: &str, path: &str) -> bool
         ensures less { NotesOneLess name.now path.now (is_noted self.old) (is_noted self.new) }
         ensures none { result ≡ true → (other : List ℕ) → is_noted self.new name.now other ≡ false }
@@ -78,14 +79,15 @@ impl AskedNames {
         }
     }
 
-    /// The paths that are noted with this name, if there are any.
+    /// The paths of the rows that asked for the file of this name, if there are any.
     pub(crate) fn paths_of(&self, name: &str) -> Option<&BTreeSet<String>>
         ensures { AreNotedWith name.now self.now (option_copied result) }
     {
         self.paths.get(name)
     }
 
-    /// Notes a path with each of these names. If memory runs out, some of it is noted.
+    /// Notes the path of a row with each of the names for which the row asked. If memory runs out, some of it
+    /// is noted.
     pub(crate) fn add_all(&mut self, names: &[String], path: &str) -> Result<(), AllocError>
         ensures noted { OnOk result (NotesAll names.now path.now self.new) }
         ensures stays { KeepsNotes (is_noted self.old) (is_noted self.new) }
@@ -96,7 +98,7 @@ impl AskedNames {
         Ok(())
     }
 
-    /// Forgets a path that is noted with these names.
+    /// Forgets the path of a row that is noted with the names for which the row asked.
     pub(crate) fn remove_all(&mut self, names: &[String], path: &str)
         ensures { KeepsOtherNotes path.now (is_noted self.old) (is_noted self.new) }
     {
@@ -106,7 +108,7 @@ impl AskedNames {
     }
 }
 
-/// Adds a copy of a text to others, unless it is one of them. If memory runs out, nothing changes.
+/// Adds a copy of a text to a set of texts, unless it is there. If memory runs out, nothing changes.
 fn insert_copy(alloc: Global, texts: &mut BTreeSet<String>, text: &str) -> Result<(), AllocError>
     ensures ok { OnOk result (NotesText text.now texts.old texts.new) }
     ensures err { OnErr result (texts.new ≡ texts.old) }
@@ -117,7 +119,7 @@ fn insert_copy(alloc: Global, texts: &mut BTreeSet<String>, text: &str) -> Resul
     insert_text(texts, String::from_str(alloc, text)?)
 }
 
-/// Adds a text to others. If memory runs out, nothing changes.
+/// Adds a text to a set of texts. If memory runs out, nothing changes.
 pub fn insert_text(texts: &mut BTreeSet<String>, text: String) -> Result<(), AllocError>
     ensures ok { OnOk result (NotesText (string_bytes text) texts.old texts.new) }
     ensures err { OnErr result (texts.new ≡ texts.old) }

@@ -1,4 +1,4 @@
-//! Paths with flavors that items name.
+//! The targets of items that choose flavors: the paths with flavors that the items of a port name.
 ghost use Rattle.std.specs.Prelude.{◌≡◌, filter, string_bytes, IfOk, option_map};
 ghost use Rattle.std.specs.List.{filter_map};
 ghost use Rattle.port_deps.specs.ItemText.{has_comma};
@@ -14,9 +14,9 @@ use port_deps::{has_comma, read_wanted};
 use port_rules::Depend;
 use std::alloc::{AllocError, Global};
 
-/// The paths with a comma that the items of the port in this row name, without subpackages: those that choose flavors.
-/// Without a row, or if the row is no port, there are none. An item that can't be read names none. It fails only if memory
-/// runs out.
+/// The paths with a comma that the items of the port in this row name, without subpackages: those that choose
+/// flavors. Without a row, or if the row is no port, there are none. An item that can't be read names none.
+/// It fails only if memory runs out.
 pub fn flavored_targets(alloc: Global, row: Option<&Row>) -> Result<Vec<String>, AllocError>
     ensures { IfOk result (GivesTexts (filter has_comma (targets_in (row_says row.entry)))) }
 {
@@ -27,7 +27,8 @@ pub fn flavored_targets(alloc: Global, row: Option<&Row>) -> Result<Vec<String>,
     Ok(found)
 }
 
-/// What the port in this row depends on. Without a row, or if the row is no port, that is nothing.
+/// The dependencies of the port in this row, whose targets are wanted. Without a row, or if the row is no
+/// port, there are none.
 fn depends_of(row: Option<&Row>) -> &[Depend]
     ensures { filter_map the_dependencies.target_by result.now ≡ targets_in (row_says row.entry) }
 {
@@ -37,7 +38,8 @@ fn depends_of(row: Option<&Row>) -> &[Depend]
     }
 }
 
-/// The path that the item of a dependency names, without a subpackage, if the item can be read and the path has a comma.
+/// The target of a dependency, if it is flavored: the path that the item names, without a subpackage, if the
+/// item can be read and the path has a comma.
 fn flavored_target(alloc: Global, depend: &Depend) -> Result<Option<String>, AllocError>
     ensures { IfOk result (GivesPath (flavored.flavored_target depend.now)) }
 {
@@ -47,7 +49,7 @@ fn flavored_target(alloc: Global, depend: &Depend) -> Result<Option<String>, All
     Ok(if_flavored(target_by(alloc, depend)?))
 }
 
-/// The path that the item of a dependency names, without a subpackage, if the item can be read.
+/// The target of a dependency: the path that the item names, without a subpackage, if the item can be read.
 fn target_by(alloc: Global, depend: &Depend) -> Result<Option<String>, AllocError>
     ensures { IfOk result (GivesPath (the_dependencies.target_by depend.now)) }
 {
@@ -55,7 +57,7 @@ fn target_by(alloc: Global, depend: &Depend) -> Result<Option<String>, AllocErro
     target_of(alloc, wanted.as_ref())
 }
 
-/// This path, if it has a comma.
+/// The target of an item, if it has a comma, and so chooses flavors.
 fn if_flavored(path: Option<String>) -> Option<String>
     ensures { option_map string_bytes result ≡ flavored.if_flavored (option_map string_bytes path) }
 {

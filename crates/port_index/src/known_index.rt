@@ -1,4 +1,4 @@
-//! An index whose rows are known.
+//! A known index: one with all rows that it needs, and what is asked of it.
 ghost use Rattle.std.specs.Prelude.{◌≡◌, true, is_some, OnOk};
 ghost use Rattle.mk_paths.specs.World.{World};
 ghost use Rattle.port_index.specs.Index as indexed;
@@ -33,8 +33,8 @@ pub struct KnownIndex {
 }
 
 impl KnownIndex {
-    /// The ports, and the faults met where ports should be, in the order of their canonical paths, each once. The
-    /// index lends them all. It fails only if memory runs out.
+    /// The roots of the index: the ports, and the faults met where ports should be, in the order of their
+    /// canonical paths, each once. The index lends them all. It fails only if memory runs out.
     pub fn roots(&self, alloc: Global) -> Result<Vec<Root<'_>>, AllocError>
         ensures { GivesAll indexed.roots self.now result }
     {
@@ -42,7 +42,7 @@ impl KnownIndex {
         roots_among(alloc, &self.paths.listed, &self.rows)
     }
 
-    /// The root at a path, if there is one. It looks at one row, and takes no memory.
+    /// The root of the index at a path, if there is one. It looks at one row, and takes no memory.
     pub fn root_at<'a>(&'a self, path: &'a str) -> Option<Root<'a>>
         ensures { IsRootAt path.now self.now result }
     {
@@ -50,8 +50,8 @@ impl KnownIndex {
         root_among(path, &self.paths.listed, &self.rows)
     }
 
-    /// The dependencies of the port at a path, in the order of its items. Of all rows, it looks at the port's own, and at
-    /// those of the paths that its items name. It fails only if memory runs out.
+    /// The edges of the port at a path of the index, in the order of its items. Of all rows, it looks at the
+    /// port's own, and at those of the paths that its items name. It fails only if memory runs out.
     pub fn edges_from(&self, alloc: Global, path: &str) -> Result<Vec<RootEdge>, AllocError>
         ensures { GivesAll (λ world. indexed.edges_of world path.now) self.now result }
     {
@@ -59,7 +59,8 @@ impl KnownIndex {
         edges_from(alloc, path, &self.paths.listed, &self.rows)
     }
 
-    /// The ports that pass a test, in the order of their paths. It fails only if memory runs out.
+    /// The ports of the index that pass a test, in the order of their paths. It fails only if memory runs
+    /// out.
     pub fn ports_that<F: Fn(&PortRecord) -> bool>(
         &self,
         alloc: Global,
@@ -72,8 +73,8 @@ impl KnownIndex {
         ports_among(alloc, &self.paths.listed, &self.rows, passes)
     }
 
-    /// The dependencies of all ports, in the order of the ports, and those of each port in the order of its items. It
-    /// fails only if memory runs out.
+    /// The edges of all ports of the index, in the order of the ports, and those of each port in the order of
+    /// its items. It fails only if memory runs out.
     pub fn make_edges(&self, alloc: Global) -> Result<Vec<RootEdge>, AllocError>
         ensures { GivesAll indexed.edges self.now result }
     {
@@ -81,7 +82,8 @@ impl KnownIndex {
         edges_among(alloc, &self.paths.listed, &self.rows)
     }
 
-    /// Makes the dependencies of all ports and keeps them, unless they are kept. If memory runs out, nothing changes.
+    /// Makes the edges of all ports of the index and keeps them with it, unless they are kept. If memory runs
+    /// out, nothing changes.
     pub fn keep_edges(&mut self, alloc: Global) -> Result<(), AllocError>
         ensures kept { OnOk result (is_some self.new.edges ≡ true) }
         ensures same { IsSameIndex self.old self.new }

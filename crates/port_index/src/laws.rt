@@ -1,4 +1,5 @@
-//! What holds of all paths. The functions do nothing else: their clauses are the laws.
+//! What holds of the paths and rows of every index. The functions do nothing else: their clauses are the
+//! laws.
 ghost use Rattle.mk_paths.specs.World.{FileMap};
 ghost use Rattle.port_index.specs.Alike.{AlikeRowsListTheSame};
 ghost use Rattle.port_index.specs.Makefiles.{AreOfDirectories, SameMakefilesServe};
@@ -8,43 +9,45 @@ ghost use Rattle.port_index.specs.RowLaws.{KnownRowsAreEnough, NeededAreNamed, O
 use mk_eval::same_where_answered;
 use mk_paths::Settings;
 
-/// Take any world with the same settings that gives the answers on which it depends what a path leads to.
-/// In it the path leads to the same, at the same cost, and this depends on the same answers.
+/// Take any world with the same settings that gives the answers on which it depends what a path of the index
+/// leads to. In it the path leads to the same, at the same cost, and this depends on the same answers.
 pub fn path_is_the_same_where_answered()
     ensures { PathIsTheSameWhereAnswered }
 {
     same_where_answered();
 }
 
-/// The listed paths cost no more than all paths on which the index depends: these, and those that items
-/// name, each once.
+/// The listed paths of the index cost no more than all paths on which the index depends: these, and those
+/// that items name, each once.
 pub fn listed_paths_cost_no_more()
     ensures { ListedPathsCostNoMore }
 {}
 
-/// As many makefiles are evaluated for some paths as there are paths among them whose makefile is there.
+/// For some paths of the index, as many makefiles are evaluated as there are paths among them whose makefile
+/// is there.
 pub fn makefiles_are_evaluated()
     ensures { MakefilesAreEvaluated }
 {}
 
-/// What the index is follows from rows alone, once they say what each path leads to on which it depends: which paths
-/// are listed and needed, and which roots and dependencies there are.
+/// What the index is follows from rows alone, once they say what each path leads to on which the index
+/// depends: which paths are listed and needed, and which roots and edges there are.
 pub fn known_rows_are_enough()
     ensures { KnownRowsAreEnough }
 {}
 
-/// If a path that is needed gets its row, then less is left to be done, by as much as that path takes.
+/// If a path that the index needs gets its row, then less is left to be done, by as much as that path takes.
 pub fn one_row_more_leaves_less()
     ensures { OneRowMoreLeavesLess }
 {}
 
-/// Where the rows of directories name the same paths as before, the same paths are listed. Where those of listed paths
-/// do, the same ones are needed.
+/// Where the rows of directories name the same paths as before, the index lists the same paths. Where the
+/// rows of listed paths do, it needs the same ones.
 pub fn alike_rows_list_the_same()
     ensures { AlikeRowsListTheSame }
 {}
 
-/// Where the same makefiles are there, the directories are the same, and the same paths have a makefile.
+/// Where the same makefiles are there, the index has the same directories, and the same paths have a
+/// makefile.
 pub fn same_makefiles_serve()
     ensures { SameMakefilesServe }
 {}
@@ -56,7 +59,7 @@ pub fn makefiles_are_of_directories(settings: &Settings)
     let _trees = settings.path.trees();
 }
 
-/// A path is needed if it is listed, or if an item of a port at a listed path names it.
+/// A path is needed by the index if it is listed, or if an item of a port at a listed path names it.
 pub fn needed_are_named()
     ensures { NeededAreNamed }
 {}

@@ -1,4 +1,4 @@
-//! Makefiles that may have changed.
+//! The names of changed files that are makefiles, and whether these makefiles are there.
 ghost use Rattle.std.specs.Prelude.{◌≡◌, IfOk};
 ghost use Rattle.std.specs.Result.{result_err};
 ghost use Rattle.port_index.specs.KeptFiles.{KeepsFiles};
@@ -9,14 +9,15 @@ use mk_paths::{FilesFault, Name, NameFault, Names};
 use std::alloc::Global;
 use std::collections::BTreeSet;
 
-/// Whether a name ends as that of a directory's makefile does.
+/// Whether the name of a changed file ends as that of a directory's makefile does.
 pub fn is_makefile(name: &str) -> bool
     ensures { result ≡ makefiles.is_makefile name.now }
 {
     name.ends_with("/Makefile")
 }
 
-/// Whether each makefile that has one of these names is there. It fails if the files fail, or if memory runs out.
+/// Whether each makefile that has one of these names of changed files is there. It fails if the files fail,
+/// or if memory runs out.
 pub fn makefiles_are_there<F: Names>(
     alloc: Global,
     files: &mut F,
@@ -33,7 +34,7 @@ pub fn makefiles_are_there<F: Names>(
     Ok(true)
 }
 
-/// Whether a name is that of a file that is there; of any name but a makefile's it is so too.
+/// Whether the makefile of this name is there; it is so of any name that isn't a makefile's.
 fn is_there_if_makefile<F: Names>(
     alloc: Global,
     files: &mut F,
@@ -48,7 +49,7 @@ fn is_there_if_makefile<F: Names>(
     is_there(alloc, files, name)
 }
 
-/// Whether a text is the name of a file that is there.
+/// Whether a text is the name of a makefile that is there.
 fn is_there<F: Names>(alloc: Global, files: &mut F, text: &str) -> Result<bool, FilesFault>
     ensures there { IfOk result (SaysIsThere text.now (F.view files.old).files) }
     ensures keeps { KeepsFiles (result_err result) (F.view files.old) (F.view files.new) }

@@ -1,4 +1,4 @@
-//! A map of rows in memory: what paths lead to, as far as that is known.
+//! The rows of the index in memory, by their paths: what paths lead to, as far as that is known.
 ghost use Rattle.std.specs.Prelude.{◌≡◌, ◌+◌, ℕ, List, Option, Some, None, map, option_map, string_bytes};
 ghost use Rattle.std.specs.Prelude.{IfOk, OnOk, OnErr};
 ghost use Rattle.std.specs.BTreeMap.{get_by_text};
@@ -17,8 +17,8 @@ use std::cmp::Ordering;
 use std::collections::BTreeSet;
 use std::collections::btree_map::Range;
 
-/// Rows in memory, by the canonical paths that lead to them, and their size: the bytes of all rows that were put. It
-/// stops at 2^64 - 1.
+/// The rows of the index in memory, by the canonical paths that lead to them, and their size: the bytes of
+/// all rows that were put. It stops at 2^64 - 1.
 #[derive(Debug, Drop)]
 pub struct MemoryRows {
     pub(crate) noted: NotedRows,
@@ -26,7 +26,7 @@ pub struct MemoryRows {
 }
 
 impl MemoryRows {
-    /// A map without rows. It takes no memory.
+    /// A map in memory without rows. It takes no memory.
     pub fn new(alloc: Global) -> MemoryRows
         ensures none { (path : List ℕ) → said_in result path ≡ None }
         ensures size { size_of result ≡ 0 }
@@ -37,7 +37,7 @@ impl MemoryRows {
         }
     }
 
-    /// The row of this path, if it has one.
+    /// The row in memory of this path, if it has one.
     pub fn get(&self, path: &str) -> Option<&Row>
         ensures { row_lent result ≡ entries_in self.now path.now }
     {
@@ -47,7 +47,7 @@ impl MemoryRows {
         }
     }
 
-    /// What finds rows by their paths.
+    /// A finder of the rows in memory by their paths.
     pub fn finder(&self) -> RowFinder<'_>
         ensures { IsFinderOf self.now result }
     {
@@ -59,7 +59,8 @@ impl MemoryRows {
         }
     }
 
-    /// The paths of the rows for which a file of one of these names was asked. It fails only if memory runs out.
+    /// The paths of the rows in memory for which a file of one of these names was asked. It fails only if
+    /// memory runs out.
     pub fn paths_asking(
         &self,
         alloc: Global,
@@ -70,14 +71,15 @@ impl MemoryRows {
         self.noted.paths_asking(alloc, names)
     }
 
-    /// How many bytes all rows have that were put.
+    /// How many bytes all rows in memory have that were put.
     pub fn size(&self) -> u64
         ensures { result ≡ size_of self.now }
     {
         self.size
     }
 
-    /// Gives this path this row, whether or not it had one. If memory runs out, it fails, and all rows stay as they are.
+    /// Gives this path this row in memory, whether or not it had one. If memory runs out, it fails, and all
+    /// rows stay as they are.
     pub fn put(&mut self, path: String, known: KnownRow) -> Result<(), AllocError>
         ensures says { OnOk result (PutsSaid path known self.old self.new) }
         ensures ok { OnOk result (PutsEntry path known.row self.old self.new) }
@@ -91,7 +93,7 @@ impl MemoryRows {
         Ok(())
     }
 
-    /// Takes out the row of this path, if it has one, and gives it.
+    /// Takes the row of this path out of memory, if it has one, and gives it.
     pub fn take_out(&mut self, path: &str) -> Option<KnownRow>
         ensures taken { option_map known_seen result ≡ said_in self.old path.now }
         ensures others { TakesSaidOut path.now self.old self.new }
@@ -101,8 +103,8 @@ impl MemoryRows {
     }
 }
 
-/// Finds rows by their paths. For paths in the order of their bytes, all take one pass over the rows; any other path is
-/// looked up.
+/// Finds rows in memory by their paths. For paths in the order of their bytes, all take one pass over the
+/// rows; any other path is looked up.
 #[derive(Drop)]
 pub struct RowFinder<'a> {
     rows: &'a MemoryRows,
@@ -111,7 +113,7 @@ pub struct RowFinder<'a> {
 }
 
 impl<'a> RowFinder<'a> {
-    /// The row of this path, if it has one.
+    /// The row in memory of this path, if it has one.
     pub fn get(&mut self, path: &str) -> Option<&'a Row>
         ensures row { FindsRow path.now self.old result }
         ensures finder { (rows : MemoryRows) → IsFinderOf rows self.old → IsFinderOf rows self.new }
@@ -125,7 +127,7 @@ impl<'a> RowFinder<'a> {
         self.search(path)
     }
 
-    /// The same for a path that needn't be the next one.
+    /// The row in memory of a path that needn't be the next one, if it has one.
     fn search(&mut self, path: &str) -> Option<&'a Row>
         ensures row { FindsRow path.now self.old result }
         ensures finder { (rows : MemoryRows) → IsFinderOf rows self.old → IsFinderOf rows self.new }
@@ -144,7 +146,7 @@ impl<'a> RowFinder<'a> {
     }
 }
 
-/// Whether one of these names is among the others.
+/// Whether one of the names for which a row asked is among the others.
 pub fn is_one_among(names: &[String], others: &BTreeSet<String>) -> bool
     ensures { result ≡ list_any (λ name. contains_text others.now (string_bytes name)) names.now }
 {

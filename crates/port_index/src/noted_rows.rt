@@ -1,4 +1,4 @@
-//! Rows by their paths, and which of them asked for a file.
+//! Known rows by their paths, noted with the names of the files for which they asked.
 ghost use Rattle.std.specs.Prelude.{◌≡◌, ℕ, List, Some, None, map, string_bytes, IfOk, OnOk, OnErr};
 ghost use Rattle.std.specs.BTreeMap.{get_by_text};
 ghost use Rattle.std.specs.BTreeSet.{contains_text};
@@ -14,7 +14,7 @@ use std::alloc::{AllocError, Global};
 use std::collections::{BTreeMap, BTreeSet};
 use text_parts::put_in_order;
 
-/// A row that is known.
+/// A row of the index that is known.
 #[derive(Debug, Drop)]
 pub struct KnownRow {
     /// What the path leads to.
@@ -25,7 +25,8 @@ pub struct KnownRow {
     pub size: u64,
 }
 
-/// Rows by their paths. Which of them asked for a file is found without a look at the others.
+/// Known rows by their paths. Which of them asked for a file is found without a look at the others, since
+/// rows are noted with the names for which they asked.
 #[derive(Debug, Drop)]
 pub(crate) struct NotedRows {
     pub(crate) rows: BTreeMap<String, KnownRow>,
@@ -34,7 +35,7 @@ pub(crate) struct NotedRows {
 }
 
 impl NotedRows {
-    /// No rows. It takes no memory.
+    /// No noted rows. It takes no memory.
     pub(crate) fn new(alloc: Global) -> NotedRows
         ensures { (path : List ℕ) → get_by_text result.rows path ≡ None }
     {
@@ -44,7 +45,8 @@ impl NotedRows {
         }
     }
 
-    /// Gives this path this row, whether or not it had one. If memory runs out, it fails, and all rows stay as they are.
+    /// Gives this path this row, noted with the names for which it asked, whether or not the path had a row.
+    /// If memory runs out, it fails, and all rows stay as they are.
     pub(crate) fn put(&mut self, path: String, row: KnownRow) -> Result<(), AllocError>
         ensures ok { OnOk result (NotesRow path row self.old.rows self.new.rows) }
         ensures err { OnErr result (KeepsNoted self.old.rows self.new.rows) }
@@ -56,7 +58,7 @@ impl NotedRows {
         }
     }
 
-    /// Takes out the row of this path, if it has one, and gives it.
+    /// Takes out the noted row of this path, if it has one, and gives it.
     pub(crate) fn take_out(&mut self, path: &str) -> Option<KnownRow>
         ensures taken { result ≡ get_by_text self.old.rows path.now }
         ensures others { TakesRowOut path.now self.old.rows self.new.rows }
@@ -66,8 +68,8 @@ impl NotedRows {
         Some(taken)
     }
 
-    /// The paths of the rows for which a file of one of these names was asked, in the order of their bytes. It fails only if
-    /// memory runs out.
+    /// The paths of the noted rows for which a file of one of these names was asked, in the order of their
+    /// bytes. It fails only if memory runs out.
     pub(crate) fn paths_asking(
         &self,
         alloc: Global,
@@ -83,7 +85,7 @@ impl NotedRows {
         Ok(paths)
     }
 
-    /// Adds the paths of the rows for which the file of this name was asked.
+    /// Adds the paths of the noted rows for which the file of this name was asked.
     fn add_asking(
         &self,
         alloc: Global,
@@ -98,7 +100,7 @@ impl NotedRows {
         }
     }
 
-    /// Adds those of these paths for whose rows the file of this name was asked.
+    /// Adds those of these noted paths for whose rows the file of this name was asked.
     fn add_those_asking(
         &self,
         alloc: Global,
@@ -116,7 +118,7 @@ impl NotedRows {
         Ok(())
     }
 
-    /// Whether the file of this name was asked for the row of this path, if it has one.
+    /// Whether the noted row of this path, if it has one, asked for the file of this name.
     fn asks(&self, path: &str, name: &str) -> bool
         ensures { result ≡ asks_in (get_by_text self.now.rows path.now) name.now }
     {
@@ -127,7 +129,7 @@ impl NotedRows {
     }
 }
 
-/// Whether a name is one of these.
+/// Whether a name is one of those for which a row asked.
 pub(crate) fn has_name(names: &[String], name: &str) -> bool
     ensures { result ≡ list_any (λ one. bytes_eq (string_bytes one) name.now) names.now }
 {

@@ -1,4 +1,4 @@
-//! Paths that are searched for one after another.
+//! A finder of paths of the index that are asked for one after another.
 ghost use Rattle.std.specs.Prelude.{map, string_bytes};
 ghost use Rattle.port_index.specs.Finders.{FindsPaths, KeepsFinding, TellsIfFound};
 
@@ -13,14 +13,14 @@ pub struct PathFinder<'a> {
 }
 
 impl<'a> PathFinder<'a> {
-    /// What finds paths among these.
+    /// A finder of paths among these.
     pub fn new(paths: &'a [String]) -> PathFinder<'a>
         ensures { FindsPaths (map string_bytes paths.now) result }
     {
         PathFinder { paths, place: 0 }
     }
 
-    /// Whether this path is one of them.
+    /// Whether the finder has this path: whether it is one of its paths.
     pub fn has(&mut self, path: &str) -> bool
         ensures has { TellsIfFound path.now self.old result }
         ensures finder { KeepsFinding self.old self.new }

@@ -1,4 +1,4 @@
-//! What a path of a ports tree leads to.
+//! What a path of a ports tree leads to: a port, a list of directories, a fault or nothing.
 ghost use Rattle.std.specs.Prelude.{◌≡◌, IfOk};
 ghost use Rattle.port_index.specs.PathOutcomes as outcomes;
 ghost use Rattle.port_index.specs.Seen.{IsFindingOf, IsFindingAfter, IsPortFinding, IsListFinding, finding_seen};
@@ -10,7 +10,7 @@ use pkg_path::PkgPath;
 use port_rules::{PortRecord, record, words_in};
 use std::alloc::{AllocError, Global};
 
-/// What a path leads to: what the makefile that it names describes.
+/// What a path of a ports tree leads to: what the makefile that it names describes.
 #[derive(Debug, Drop)]
 pub enum Row {
     /// There is no such makefile.
@@ -31,7 +31,7 @@ pub enum Row {
     Other,
 }
 
-/// What a path leads to, and what it cost to learn that.
+/// What a path of a ports tree leads to, and what it cost to learn that.
 #[derive(Debug, Drop)]
 pub struct Finding {
     /// What the path leads to.
@@ -41,7 +41,7 @@ pub struct Finding {
 }
 
 impl Finding {
-    /// What a path leads to without a makefile: nothing, at no cost.
+    /// What a path leads to that has no makefile: nothing, at no cost.
     pub fn nothing() -> Finding
         ensures { finding_seen result ≡ outcomes.nothing_found }
     {
@@ -52,8 +52,8 @@ impl Finding {
     }
 }
 
-/// What the makefile of this name describes, given how its evaluation with these flavors, or with none given,
-/// ended. It fails only if memory runs out.
+/// What a path leads to: what its makefile, of this name, describes, given how its evaluation with these
+/// flavors, or with none given, ended. It fails only if memory runs out.
 pub fn finding_of(
     alloc: Global,
     outcome: &Result<Evaluated, Failed>,
@@ -71,14 +71,14 @@ pub fn finding_of(
     }
 }
 
-/// The same fault once more.
+/// A copy of the fault to which a path leads.
 fn copy_of(alloc: Global, fault: &Fault) -> Result<Fault, AllocError>
     ensures { IfOk result (λ copied. copied ≡ fault.now) }
 {
     Fault::new(alloc, fault.kind(), fault.name(), fault.line())
 }
 
-/// What an evaluated makefile describes.
+/// What a path leads to whose makefile is evaluated without a fault.
 fn finding_after(
     alloc: Global,
     evaluated: &Evaluated,
@@ -103,7 +103,7 @@ fn finding_after(
     }
 }
 
-/// A port, or the fault of its record.
+/// What the path of a port leads to: the port, or the fault of its record.
 fn port_finding(
     alloc: Global,
     evaluated: &Evaluated,
@@ -124,7 +124,7 @@ fn port_finding(
     }
 }
 
-/// A list of directories, or the fault of its SUBDIR.
+/// What the path of a list leads to: the directories that SUBDIR lists, or the fault of SUBDIR.
 fn list_finding(
     alloc: Global,
     evaluated: &Evaluated,

@@ -1,4 +1,4 @@
-//! What the ports of a ports tree depend on, by the rows of its paths.
+//! The edges of the roots of a ports tree, by the rows of its paths: what the ports depend on, with statuses.
 ghost use Rattle.std.specs.Prelude.{◌≡◌, map, IfOk, OnOk};
 ghost use Rattle.std.specs.Option.{option_copied};
 ghost use Rattle.port_deps.specs.Seen.{found_seen};
@@ -13,14 +13,14 @@ use crate::tree_paths::is_found_in;
 use port_deps::{Found, Item, RootEdge, Wanted, items, resolve};
 use std::alloc::{AllocError, Global};
 
-/// An item of the port at a path.
+/// An item of the root at a path, of which an edge is made.
 #[derive(Debug, Drop)]
 struct RootItem {
     root: String,
     item: Item,
 }
 
-/// The items of the ports at these paths, in the order of the paths.
+/// The items of the ports at these paths, in the order of the paths, for their edges.
 fn items_of_all(
     alloc: Global,
     paths: &[String],
@@ -36,7 +36,8 @@ fn items_of_all(
     Ok(found)
 }
 
-/// Adds the items of the port in this row of a path. Without a row, or if the row is no port, it adds none.
+/// Adds the items of the port in this row of a path. Without a row, or if the row is no port, there are none,
+/// and it adds none.
 fn add_items(
     alloc: Global,
     found: &mut Vec<RootItem>,
@@ -51,7 +52,7 @@ fn add_items(
     }
 }
 
-/// Adds items of the port at a path.
+/// Adds items of the port at a path, each with that path.
 fn put_items(
     alloc: Global,
     found: &mut Vec<RootItem>,
@@ -69,7 +70,7 @@ fn put_items(
     Ok(())
 }
 
-/// The path that is asked for, without a subpackage, if something is.
+/// The path that an item asks for, without a subpackage, if the item can be read.
 pub(crate) fn target_of(
     alloc: Global,
     wanted: Option<&Wanted>,
@@ -82,7 +83,7 @@ pub(crate) fn target_of(
     }
 }
 
-/// The dependencies that items are, in their order. The status of each depends on the row of the path that
+/// The edges of the items of ports, in their order. The status of each depends on the row of the path that
 /// the item names.
 fn edges_of_all(
     alloc: Global,
@@ -98,7 +99,7 @@ fn edges_of_all(
     Ok(found)
 }
 
-/// The dependency that an item is.
+/// The edge of an item of a port, with the status by the row of the path that the item names.
 fn edge_of(alloc: Global, rooted: RootItem, rows: &MemoryRows) -> Result<RootEdge, AllocError>
     ensures { IfOk result (IsEdgeOf rooted rows.now) }
 {
@@ -110,7 +111,7 @@ fn edge_of(alloc: Global, rooted: RootItem, rows: &MemoryRows) -> Result<RootEdg
     Ok(RootEdge::new(root, resolve(item, found)))
 }
 
-/// What an item finds if the path that it names has this row, or no row.
+/// What an item finds at the path that it names, if that has this row, or no row.
 fn found_as(row: Option<&Row>) -> Found<'_>
     ensures { found_seen result ≡ needs.found_of (row_says row.entry) }
 {
@@ -122,9 +123,8 @@ fn found_as(row: Option<&Row>) -> Found<'_>
     }
 }
 
-/// The dependencies of the ports at these paths, by their rows: those of each port in the order of its
-/// items. The status of each depends on the row of the path that its item names. It fails only if memory
-/// runs out.
+/// The edges of the ports at these paths, by their rows: those of each port in the order of its items. The
+/// status of each depends on the row of the path that its item names. It fails only if memory runs out.
 pub(crate) fn edges_among(
     alloc: Global,
     paths: &[String],
@@ -136,8 +136,8 @@ pub(crate) fn edges_among(
     edges_of_all(alloc, items, rows)
 }
 
-/// The dependencies of the port at a path, if that is one of these, in the order of its items. Of all rows, it looks at the
-/// port's own, and at those of the paths that its items name. It fails only if memory runs out.
+/// The edges of the port at a path, if that is one of these, in the order of its items. Of all rows, it looks
+/// at the port's own, and at those of the paths that its items name. It fails only if memory runs out.
 pub(crate) fn edges_from(
     alloc: Global,
     path: &str,

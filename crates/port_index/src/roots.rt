@@ -15,7 +15,8 @@ use port_deps::Root;
 use port_rules::PortRecord;
 use std::alloc::{AllocError, Global};
 
-/// The root at a path, if that is one of these and there is a root. It takes no memory.
+/// The root at a path, by the path's row, if that path is one of these and there is a root. It takes no
+/// memory.
 pub(crate) fn root_among<'a>(
     path: &'a str,
     paths: &[String],
@@ -30,7 +31,7 @@ pub(crate) fn root_among<'a>(
     }
 }
 
-/// The root at a path with this row, if there is one.
+/// The root at a path with this row, if the row is a port or a fault.
 fn root_with<'a>(path: &'a str, row: Option<&'a Row>) -> Option<Root<'a>>
     ensures { result ≡ needs.root_with path.now (needs.root_state (row_says row.entry)) }
 {
@@ -40,8 +41,8 @@ fn root_with<'a>(path: &'a str, row: Option<&'a Row>) -> Option<Root<'a>>
     }
 }
 
-/// The roots at these paths, in their order: the ports, and the faults there. They are lent by the paths and the
-/// rows. It fails only if memory runs out.
+/// The roots at these paths, by their rows, in their order: the ports, and the faults there. They are lent by
+/// the paths and the rows. It fails only if memory runs out.
 pub(crate) fn roots_among<'a>(
     alloc: Global,
     paths: &'a [String],
@@ -57,7 +58,7 @@ pub(crate) fn roots_among<'a>(
     Ok(found)
 }
 
-/// Adds the root at a path with this row, if there is one.
+/// Adds the root at a path with this row, if there is a root.
 fn add_root<'a>(
     found: &mut Vec<Root<'a>>,
     path: &'a str,
@@ -71,9 +72,9 @@ fn add_root<'a>(
     Ok(())
 }
 
-/// The ports at these paths that pass a test, in the order of the paths, which is that of their bytes. They are lent by
-/// the paths and the rows. It goes through the rows, so paths whose row doesn't pass the test aren't looked at. It
-/// fails only if memory runs out.
+/// The roots at these paths that are ports and pass a test, in the order of the paths, which is that of their
+/// bytes. They are lent by the paths and the rows. It goes through the rows, so paths whose row doesn't pass
+/// the test aren't looked at. It fails only if memory runs out.
 pub(crate) fn ports_among<'a, F: Fn(&PortRecord) -> bool>(
     alloc: Global,
     paths: &'a [String],
@@ -95,7 +96,7 @@ pub(crate) fn ports_among<'a, F: Fn(&PortRecord) -> bool>(
     Ok(found)
 }
 
-/// Adds the port at a path, if that is found.
+/// Adds the root at a path that is a port, if the path is found.
 fn add_port<'a>(
     found: &mut Vec<Root<'a>>,
     finder: &mut PathFinder<'_>,
@@ -111,7 +112,7 @@ fn add_port<'a>(
     Ok(())
 }
 
-/// The state of the root that a row is, if it is one: a port, or a fault.
+/// The state of the root that a row makes, if it makes one: a port, or a fault.
 fn state_of(row: Option<&Row>) -> Option<Result<&PortRecord, &Fault>>
     ensures { option_map state_lent result ≡ needs.root_state (row_says row.entry) }
 {

@@ -21,8 +21,8 @@ use std::alloc::{AllocError, Global};
 use std::cmp::Ordering;
 use text_parts::{clones_of, put_in_order};
 
-/// The directories in which a makefile may be, by the names of the files: in the order of their bytes, each
-/// once. It fails if the files fail, or if memory runs out.
+/// The directories of a ports tree in which a makefile may be, by the names of the files: in the order of
+/// their bytes, each once. It fails if the files fail, or if memory runs out.
 pub fn directories<F: Listing>(alloc: Global, files: &mut F) -> Result<Vec<String>, FilesFault>
     ensures ok { IfOk result (GivesTexts (dirs.directories (F.view files.old).files)) }
     ensures keeps { KeepsFiles (result_err result) (F.view files.old) (F.view files.new) }
@@ -33,7 +33,7 @@ pub fn directories<F: Listing>(alloc: Global, files: &mut F) -> Result<Vec<Strin
     Ok(found)
 }
 
-/// The directories of which these names are makefiles.
+/// The directories of a ports tree of which these names are makefiles.
 fn directories_of(alloc: Global, names: &[String]) -> Result<Vec<String>, AllocError>
     ensures { IfOk result (GivesTexts (filter_map dirs.listable_directory (names_seen names.now))) }
 {
@@ -44,7 +44,7 @@ fn directories_of(alloc: Global, names: &[String]) -> Result<Vec<String>, AllocE
     Ok(found)
 }
 
-/// Adds a path, if there is one.
+/// Adds a path of a ports tree to others, if there is one.
 pub(crate) fn add_found(paths: &mut Vec<String>, path: Option<String>) -> Result<(), AllocError>
     ensures { OnOk result (AddsPath (option_map string_bytes path) paths.old paths.new) }
 {
@@ -54,7 +54,7 @@ pub(crate) fn add_found(paths: &mut Vec<String>, path: Option<String>) -> Result
     Ok(())
 }
 
-/// The directory of which a name is the makefile, if a path can name that.
+/// The directory of a ports tree of which a name is the makefile, if a path can name that.
 #[tactic(auto, unfolding(crate::specs::TreePaths::listable_directory))]
 pub(crate) fn directory_of(alloc: Global, name: &str) -> Result<Option<String>, AllocError>
     ensures { IfOk result (GivesPath (dirs.listable_directory name.now)) }
@@ -80,7 +80,7 @@ fn makefile_directory(name: &str) -> Option<&str>
     }
 }
 
-/// What follows the first slash of a text.
+/// What follows the first slash in the name of a file of a ports tree.
 fn after_slash(text: &str) -> Option<&str>
     ensures { option_copied result ≡ dirs.after_slash text.now }
 {
@@ -88,8 +88,8 @@ fn after_slash(text: &str) -> Option<&str>
     Some(after)
 }
 
-/// These directories, and the paths that the lists among them name, by their rows: in the order of their
-/// bytes, each once. It fails only if memory runs out.
+/// The listed paths of a ports tree: these directories, and the paths that the lists among them name, by
+/// their rows. They are in the order of their bytes, each once. It fails only if memory runs out.
 pub fn listed(
     alloc: Global,
     directories: &[String],
@@ -103,8 +103,8 @@ pub fn listed(
     Ok(paths)
 }
 
-/// Whether a path is found among these. They are searched in the order of their bytes: a path that is found is one
-/// of them, and one of them may be missed if they aren't in that order, each once.
+/// Whether a path of a ports tree is found among these. They are searched in the order of their bytes: a path
+/// that is found is one of them, and one of them may be missed if they aren't in that order, each once.
 pub fn is_found_in(paths: &[String], path: &str) -> bool
     ensures found { result ≡ true → is_one_of path.now (map string_bytes paths.now) ≡ true }
     ensures all { TellsPathAmong path.now paths.now result }
@@ -120,7 +120,7 @@ pub fn is_found_in(paths: &[String], path: &str) -> bool
     }
 }
 
-/// Adds more texts after these.
+/// Adds more paths after these.
 fn append(texts: &mut Vec<String>, more: Vec<String>) -> Result<(), AllocError>
     ensures { OnOk result (texts.new.items ≡ texts.old.items ++ more.items) }
 {
@@ -130,7 +130,7 @@ fn append(texts: &mut Vec<String>, more: Vec<String>) -> Result<(), AllocError>
     Ok(())
 }
 
-/// The paths that these directories name.
+/// The paths that the lists in these directories of a ports tree name, by the rows.
 fn named_by_all(
     alloc: Global,
     directories: &[String],
@@ -146,7 +146,7 @@ fn named_by_all(
     Ok(found)
 }
 
-/// Adds the paths that a directory with this row names.
+/// Adds the paths that the list in a directory with this row names.
 fn add_named(
     alloc: Global,
     found: &mut Vec<String>,
@@ -161,7 +161,7 @@ fn add_named(
     }
 }
 
-/// Adds the paths that words of a directory name.
+/// Adds the paths that the words of a directory's list (SUBDIR) name.
 fn add_words(
     alloc: Global,
     found: &mut Vec<String>,
@@ -176,7 +176,7 @@ fn add_words(
     Ok(())
 }
 
-/// The path that a word of a directory names, if the word chooses flavors.
+/// The path that a word of a directory's list names, if the word chooses flavors.
 fn path_of_word(alloc: Global, directory: &str, word: &str) -> Result<Option<String>, AllocError>
     ensures { IfOk result (GivesPath (dirs.path_of_word directory.now word.now)) }
 {
@@ -190,7 +190,8 @@ fn path_of_word(alloc: Global, directory: &str, word: &str) -> Result<Option<Str
     }
 }
 
-/// The text of a word below a directory. In the trees' own directory it is the word alone.
+/// The text of the path that a list's word means, below the list's directory. In the trees' own directory it
+/// is the word alone.
 fn path_below(alloc: Global, directory: &str, word: &str) -> Result<String, AllocError>
     ensures { IfOk result (λ text. string_bytes text ≡ dirs.path_below directory.now word.now) }
 {

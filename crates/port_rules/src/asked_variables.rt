@@ -1,4 +1,4 @@
-//! Variables that are asked for a record, over its one budget.
+//! Variables of a port's makefile that are asked for its record, with the one budget of that.
 ghost use Rattle.std.specs.Prelude.{◌≡◌, ◌++◌, map, option_map, string_bytes, IfOk};
 ghost use Rattle.mk_text.specs.Words.{words_of};
 ghost use Rattle.port_rules.specs.Values as values;
@@ -10,7 +10,7 @@ use mk_env::{Env, expand_variable};
 use mk_text::words;
 use std::alloc::{AllocError, Global};
 
-/// The value of a variable; `None`, at no cost, if it isn't defined.
+/// The value of a variable that is asked for a port's record; `None`, at no cost, if it isn't defined.
 #[tactic(auto, unfolding(crate::specs::Values::value))]
 pub(crate) fn value(
     alloc: Global,
@@ -27,7 +27,7 @@ pub(crate) fn value(
     Ok(Some(text))
 }
 
-/// The value of a variable, or of another one if the first isn't defined.
+/// The value of a variable that is asked for a port's record, or of another one if the first isn't defined.
 #[tactic(auto, unfolding(crate::specs::Values::value_or))]
 pub(crate) fn value_or(
     alloc: Global,
@@ -44,7 +44,7 @@ pub(crate) fn value_or(
     }
 }
 
-/// The value of a variable for a package: of the variable with the package's ending, or of the one
+/// The value of a variable for a package of a port: of the variable with the package's ending, or of the one
 /// without if that isn't defined. For `-`, whose ending is empty, both are the same variable.
 pub(crate) fn package_value(
     alloc: Global,
@@ -62,7 +62,8 @@ pub(crate) fn package_value(
     value_or(alloc, env, own.as_str(), name, budget)
 }
 
-/// The value of a package's own variable: of the one whose name has the package's ending.
+/// The value of a variable of one package of a port alone: of the variable whose name has the package's
+/// ending.
 pub(crate) fn own_value(
     alloc: Global,
     env: &Env,
@@ -79,7 +80,7 @@ pub(crate) fn own_value(
     value(alloc, env, own.as_str(), budget)
 }
 
-/// The name of a package's own variable.
+/// The name of a variable of one package of a port alone: with the package's ending.
 fn with_ending(alloc: Global, name: &str, subpackage: &str) -> Result<String, AllocError>
     ensures { IfOk result (λ own. string_bytes own ≡ name.now ++ values.ending subpackage.now) }
 {
@@ -87,14 +88,14 @@ fn with_ending(alloc: Global, name: &str, subpackage: &str) -> Result<String, Al
     format!(in alloc; "{name}{ending}")
 }
 
-/// What the names of a package's own variables end in.
+/// The ending of the names of the variables that one package of a port has alone.
 pub(crate) fn ending(subpackage: &str) -> &str
     ensures { result.now ≡ values.ending subpackage.now }
 {
     if subpackage == "-" { "" } else { subpackage }
 }
 
-/// The text of a variable; empty if it isn't defined.
+/// The text of a variable that is asked for a port's record; empty if it isn't defined.
 #[tactic(auto, unfolding(crate::specs::Values::asked_text))]
 pub(crate) fn asked_text(
     alloc: Global,
@@ -108,7 +109,7 @@ pub(crate) fn asked_text(
     Ok(text_of(alloc, found))
 }
 
-/// The words of a variable.
+/// The words of a variable that is asked for a port's record.
 #[tactic(auto, unfolding(crate::specs::Values::asked_words))]
 pub(crate) fn asked_words(
     alloc: Global,
@@ -123,7 +124,7 @@ pub(crate) fn asked_words(
     Ok(words_in(alloc, text.as_str())?)
 }
 
-/// The words of a variable, their letters lowered.
+/// The words of a variable that is asked for a port's record, their letters lowered.
 #[tactic(auto, unfolding(crate::specs::Values::lowercase_words))]
 pub(crate) fn lowercase_words(
     alloc: Global,
@@ -139,7 +140,7 @@ pub(crate) fn lowercase_words(
     Ok(words_in(alloc, lowered.as_str())?)
 }
 
-/// The text of a variable for a package.
+/// The text of a variable for a package of a port; empty if it isn't defined.
 #[tactic(auto, unfolding(crate::specs::Values::package_text))]
 pub(crate) fn package_text(
     alloc: Global,
@@ -154,7 +155,7 @@ pub(crate) fn package_text(
     Ok(text_of(alloc, found))
 }
 
-/// The words of a variable for a package.
+/// The words of a variable for a package of a port.
 #[tactic(auto, unfolding(crate::specs::Values::package_words))]
 pub(crate) fn package_words(
     alloc: Global,
@@ -170,7 +171,7 @@ pub(crate) fn package_words(
     Ok(words_in(alloc, text.as_str())?)
 }
 
-/// The text of a value; empty if there is none.
+/// The text of an asked variable's value; empty if there is none.
 fn text_of(alloc: Global, found: Option<String>) -> String
     ensures { string_bytes result ≡ values.text_or_empty (option_map string_bytes found) }
 {
@@ -180,7 +181,7 @@ fn text_of(alloc: Global, found: Option<String>) -> String
     }
 }
 
-/// The words of a text, each a text of its own. It fails only if memory runs out.
+/// The words of a variable's text, each a text of its own. It fails only if memory runs out.
 pub fn words_in(alloc: Global, text: &str) -> Result<Vec<String>, AllocError>
     ensures { IfOk result (λ found. map string_bytes found.items ≡ words_of text.now) }
 {

@@ -1,4 +1,4 @@
-//! What a port depends on.
+//! The dependencies of a port, read from its variables.
 ghost use Rattle.std.specs.Prelude.{◌≡◌, string_bytes, IfOk};
 ghost use Rattle.std.specs.Rc.{rc_str_bytes};
 ghost use Rattle.port_rules.specs.Depends as depends;
@@ -11,7 +11,7 @@ use std::alloc::{AllocError, Global};
 use std::marker::Model;
 use std::rc::RcStr;
 
-/// What a dependency is for (bsd.port.mk(5)).
+/// The kind of a dependency: what it is for (bsd.port.mk(5)).
 #[derive(Clone, Copy, Debug, PartialEq, Eq)]
 pub enum DependKind {
     /// To build the port (BUILD_DEPENDS).
@@ -25,7 +25,7 @@ pub enum DependKind {
 }
 
 impl DependKind {
-    /// The word for it: `build`, `lib`, `run` or `test`.
+    /// The word for the kind of a dependency: `build`, `lib`, `run` or `test`.
     pub fn as_str(self) -> &'static str
         ensures { result.now ≡ depends.word_of_kind self }
     {
@@ -38,7 +38,7 @@ impl DependKind {
     }
 }
 
-/// A dependency of a port, as it is written. Dependencies of one package share its name.
+/// A dependency of a port, as its makefile writes it. Dependencies of one package share its name.
 #[derive(Debug, Drop)]
 pub struct Depend {
     kind: DependKind,
@@ -58,9 +58,9 @@ impl Model for Depend {
 }
 
 impl Depend {
-    /// The dependency of this kind, of the package of this name (empty if it is the port as a whole), on what this text
-    /// says. It shares the name with the dependency before it, if that is of the same package. It fails only if memory
-    /// runs out.
+    /// The dependency of this kind on the item of this text, for the package of this name (empty for the port
+    /// as a whole). It shares the name with the dependency before it, if that is of the same package. It
+    /// fails only if memory runs out.
     pub fn new(
         alloc: Global,
         before: Option<&Depend>,
@@ -78,22 +78,22 @@ impl Depend {
         })
     }
 
-    /// What it is for.
+    /// The kind of the dependency.
     pub fn kind(&self) -> DependKind
         ensures { result ≡ self.now.kind }
     {
         self.kind
     }
 
-    /// The package that depends, with its dash; empty if it is the port as a whole, to be
-    /// built or tested.
+    /// The package that has the dependency, with its dash; empty if it is the port as a whole, to be built or
+    /// tested.
     pub fn subpackage(&self) -> &str
         ensures { result.now ≡ self.now.subpackage }
     {
         self.subpackage.as_str()
     }
 
-    /// What is depended on, not read yet.
+    /// The item of the dependency, not read yet.
     pub fn item(&self) -> &str
         ensures { result.now ≡ self.now.item }
     {
@@ -101,7 +101,8 @@ impl Depend {
     }
 }
 
-/// The name of a package: that of the dependency before it, if it is the same.
+/// The name of the package that has a dependency, shared with the dependency before it if that is of the same
+/// package.
 fn shared_name(
     alloc: Global,
     before: Option<&Depend>,
@@ -117,7 +118,8 @@ fn shared_name(
     RcStr::from_str(alloc, subpackage)
 }
 
-/// The dependencies of a port with these packages: to be built, then of each package, then to be tested.
+/// The dependencies of a port with these packages, read from its variables: to be built, then of each
+/// package, then to be tested.
 #[tactic(auto, unfolding(crate::specs::Depends::depends_of))]
 pub(crate) fn read_depends(
     alloc: Global,
@@ -136,7 +138,7 @@ pub(crate) fn read_depends(
     Ok(found)
 }
 
-/// Dependencies with those of each package after them.
+/// A port's dependencies with those of each package, read from its variables, after them.
 fn with_each(
     alloc: Global,
     env: &Env,
@@ -153,7 +155,7 @@ fn with_each(
     Ok(found)
 }
 
-/// Dependencies with those of a package after them.
+/// A port's dependencies with those of one package, read from its variables, after them.
 #[tactic(auto, unfolding(crate::specs::Depends::add_depends))]
 fn with_depends(
     alloc: Global,
@@ -172,7 +174,7 @@ fn with_depends(
     Ok(found)
 }
 
-/// Adds dependencies of one kind.
+/// Adds dependencies of one kind, of a package or of the port as a whole, on these items.
 fn put_depends(
     alloc: Global,
     found: &mut Vec<Depend>,

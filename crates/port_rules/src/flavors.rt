@@ -1,4 +1,4 @@
-//! The flavors of a port.
+//! The flavors of a port, read from its variables.
 ghost use Rattle.std.specs.Prelude.{◌≡◌, map, string_bytes, IfOk};
 ghost use Rattle.mk_base.specs.Stops.{GivesPurely};
 ghost use Rattle.text_parts.specs.Cuts.{now_all};
@@ -35,8 +35,8 @@ impl Model for PortFlavors {
 }
 
 impl PortFlavors {
-    /// The flavors that are chosen, and those that the port has: the proper ones, and those that mark
-    /// no name.
+    /// The flavors of a port: those that are chosen, and those that the port has: the proper ones, and those
+    /// that mark no name.
     pub fn new(chosen: Vec<String>, proper: Vec<String>, pseudo: Vec<String>) -> PortFlavors
         ensures { result ≡ flavors.flavors_with chosen.items proper.items pseudo.items }
     {
@@ -47,7 +47,7 @@ impl PortFlavors {
         }
     }
 
-    /// The flavors that are chosen (FLAVOR).
+    /// The flavors of the port that are chosen (FLAVOR).
     pub fn chosen(&self) -> &[String]
         ensures { map string_bytes result.now ≡ self.now.chosen }
     {
@@ -68,7 +68,7 @@ impl PortFlavors {
         self.pseudo.as_slice()
     }
 
-    /// Whether the port has each flavor that is chosen.
+    /// Whether the port has each of its flavors that is chosen.
     fn has_chosen(&self, alloc: Global) -> Result<bool, AllocError>
         ensures { IfOk result (λ has. has ≡ flavors.has_chosen self.now) }
     {
@@ -77,7 +77,7 @@ impl PortFlavors {
         Ok(are_known(&self.chosen, &proper, &pseudo))
     }
 
-    /// The marks of the chosen flavors in a package's name.
+    /// The marks that the chosen flavors of a port put in the names of its packages.
     pub(crate) fn marks(&self, alloc: Global) -> Result<Vec<&str>, AllocError>
         ensures { IfOk result (λ marks. now_all marks.items ≡ flavors.flavor_marks self.now) }
     {
@@ -92,7 +92,7 @@ impl PortFlavors {
     }
 }
 
-/// Whether each of these texts is in one of the sets.
+/// Whether each of these flavors is in one of two sets of flavors.
 fn are_known<'a>(texts: &'a [String], one: &TextSet<'a>, other: &TextSet<'a>) -> bool
     ensures { result ≡ are_held one.now other.now texts.now }
 {
@@ -104,7 +104,7 @@ fn are_known<'a>(texts: &'a [String], one: &TextSet<'a>, other: &TextSet<'a>) ->
     true
 }
 
-/// The flavors that the variables of a port give.
+/// The flavors of a port that its variables give.
 ///
 /// The faults of expanding FLAVOR, FLAVORS and PSEUDO_FLAVORS come first. Then it is `Flavor` if a
 /// chosen flavor isn't one of the port's.

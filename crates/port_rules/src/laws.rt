@@ -1,7 +1,7 @@
-//! What holds of all records. The function does nothing: its clause is the law.
+//! What holds of all records of ports. The function does nothing: its clause is the law.
 ghost use Rattle.port_rules.specs.Records.{RecordsCostFew};
 
-/// A record costs at most 50,000 units.
+/// The record of a port costs at most 50,000 units.
 pub fn records_cost_few()
     ensures { RecordsCostFew }
 {}

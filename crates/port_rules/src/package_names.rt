@@ -1,4 +1,4 @@
-//! The full names of packages.
+//! The full names of a port's packages, made from its variables.
 ghost use Rattle.std.specs.Prelude.{◌≡◌, ◌<◌, ◌++◌, ◌∷◌, string_bytes, OnOk};
 ghost use Rattle.pkg_name.specs.Name.{split_name};
 ghost use Rattle.general_facts.specs.Ascii.{dash};
@@ -35,7 +35,7 @@ pub(crate) fn full_name(
     }
 }
 
-/// The full name that FULLPKGNAME is.
+/// The full name of a package that the text of FULLPKGNAME is.
 fn whole_name(alloc: Global, text: String) -> Result<PkgName, PureStop<FaultKind>>
     ensures { GivesNameFreely result (packages.whole_name (string_bytes text)) }
 {
@@ -63,7 +63,7 @@ fn default_name(
     marked_name(alloc, base.as_str(), &revision, &epoch, marks)
 }
 
-/// PKGNAME of a package.
+/// The PKGNAME of a package of a port: its own, or the port's with an ending added.
 #[tactic(auto, unfolding(crate::specs::Packages::package_base))]
 fn package_base(
     alloc: Global,
@@ -86,7 +86,7 @@ fn package_base(
     }
 }
 
-/// What is added to the port's PKGNAME for a package without a PKGNAME of its own.
+/// The ending that is added to the port's PKGNAME for a package without a PKGNAME of its own.
 fn added_ending(subpackage: &str) -> &str
     ensures { result.now ≡ packages.added_ending subpackage.now }
 {
@@ -97,7 +97,7 @@ fn added_ending(subpackage: &str) -> &str
     }
 }
 
-/// A name that must be there and not be empty.
+/// The text of a package's name that must be there and not be empty; else the fault `NoName`.
 fn present(found: Option<String>) -> Result<String, FaultKind>
     ensures { GivesPresent result found }
 {
@@ -107,7 +107,7 @@ fn present(found: Option<String>) -> Result<String, FaultKind>
     }
 }
 
-/// The name that a text is.
+/// The name of a package that a text of a port's variable is; else the fault `BadName`.
 fn read_name(alloc: Global, text: &str) -> Result<PkgName, PureStop<FaultKind>>
     ensures { GivesNameFreely result (packages.readable (split_name text.now)) }
 {
@@ -133,7 +133,8 @@ fn marked_name(
     read_name(alloc, extended.as_str())
 }
 
-/// The text of a name with revision and epoch after its version, and marks at its end.
+/// The text of a package's full name: the name with revision and epoch after its version, and marks at its
+/// end.
 fn extended(
     alloc: Global,
     name: &PkgName,
@@ -155,7 +156,8 @@ fn extended(
     Ok(text)
 }
 
-/// Adds a letter and a value after it, if there is a value.
+/// Adds the letter for a revision or an epoch and its value to the text of a package's full name, if there is
+/// a value.
 fn put_lettered(text: &mut String, letter: char, value: &Option<String>) -> Result<(), AllocError>
     requires { letter < 128 }
     ensures { AddsLettered result text.old letter value.now text.new }
@@ -167,7 +169,7 @@ fn put_lettered(text: &mut String, letter: char, value: &Option<String>) -> Resu
     Ok(())
 }
 
-/// Adds a dash and a word after it.
+/// Adds a dash and a word to the text of a package's full name.
 fn put_word(text: &mut String, word: &str) -> Result<(), AllocError>
     ensures { OnOk result (string_bytes text.new ≡ string_bytes text.old ++ dash ∷ word.now) }
 {

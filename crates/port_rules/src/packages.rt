@@ -1,4 +1,4 @@
-//! The packages of a port.
+//! The packages of a port, read from its variables.
 ghost use Rattle.std.specs.Prelude.{◌≡◌, map, string_bytes, IfOk};
 ghost use Rattle.std.specs.List.{list_all};
 ghost use Rattle.port_rules.specs.Packages as packages;
@@ -15,7 +15,7 @@ use pkg_name::PkgName;
 use std::alloc::{AllocError, Global};
 use std::marker::Model;
 
-/// A package of a port.
+/// A package of a port: which one it is, its full name and its comment.
 #[derive(Debug, Drop)]
 pub struct Package {
     subpackage: String,
@@ -33,7 +33,8 @@ impl Model for Package {
 }
 
 impl Package {
-    /// The package of this name among the port's packages, with its full name and its comment.
+    /// The package of a port that has this name among the port's packages, with its full name and its
+    /// comment.
     pub fn new(subpackage: String, name: PkgName, comment: String) -> Package
         ensures { result ≡ packages.package_in subpackage name comment }
     {
@@ -44,22 +45,22 @@ impl Package {
         }
     }
 
-    /// Which package of the port it is, with its dash, such as `-main`; `-` for the one package of a
-    /// port without MULTI_PACKAGES.
+    /// Which package of the port it is, with its dash, such as `-main`; `-` for the one package of a port
+    /// without MULTI_PACKAGES.
     pub fn subpackage(&self) -> &str
         ensures { result.now ≡ self.now.subpackage }
     {
         self.subpackage.as_str()
     }
 
-    /// Its full name.
+    /// The full name of the package of a port.
     pub fn name(&self) -> &PkgName
         ensures { result.now ≡ self.now.name }
     {
         &self.name
     }
 
-    /// Its comment (COMMENT); empty if there is none.
+    /// The comment of the package of a port (COMMENT); empty if there is none.
     pub fn comment(&self) -> &str
         ensures { result.now ≡ self.now.comment }
     {
@@ -67,7 +68,7 @@ impl Package {
     }
 }
 
-/// The packages that a port names (MULTI_PACKAGES), or `-` if it names none.
+/// The names with dashes of a port's packages (MULTI_PACKAGES), or `-` if it names none.
 ///
 /// The faults of expanding MULTI_PACKAGES come first. Then it is `BadName` if a word isn't a dash and a
 /// name, or is there twice.
@@ -89,14 +90,14 @@ pub(crate) fn read_subpackages(
     Ok(names)
 }
 
-/// Whether these can name the packages of a port.
+/// Whether these words can name the packages of a port in MULTI_PACKAGES.
 fn are_subpackages(alloc: Global, names: &[String]) -> Result<bool, AllocError>
     ensures { IfOk result (λ can. can ≡ packages.are_subpackages (map string_bytes names.now)) }
 {
     Ok(are_named(names) && !has_double(alloc, names)?)
 }
 
-/// Whether each word is a dash and a name.
+/// Whether each word of MULTI_PACKAGES is a dash and a name.
 fn are_named(words: &[String]) -> bool
     ensures { result ≡ list_all packages.is_named_subpackage (map string_bytes words.now) }
 {
@@ -108,14 +109,15 @@ fn are_named(words: &[String]) -> bool
     true
 }
 
-/// Whether a word is a dash and a name.
+/// Whether a word of MULTI_PACKAGES is a dash and a name.
 fn is_named(word: &str) -> bool
     ensures { result ≡ packages.is_named_subpackage word.now }
 {
     word.starts_with('-') && word != "-"
 }
 
-/// The packages of a port, in order: for each, first the name is read and then the comment.
+/// The packages of a port with these flavors, read from its variables in order: for each, first the name is
+/// read and then the comment.
 pub(crate) fn read_packages(
     alloc: Global,
     env: &Env,
@@ -129,7 +131,7 @@ pub(crate) fn read_packages(
     read_each(alloc, env, &marks, subpackages, budget)
 }
 
-/// The same; `marks` are those of the chosen flavors.
+/// The packages of a port, read from its variables in order; `marks` are those of the chosen flavors.
 fn read_each(
     alloc: Global,
     env: &Env,
@@ -146,6 +148,7 @@ fn read_each(
     Ok(found)
 }
 
+/// One package of a port, read from its variables: first its full name, then its comment.
 #[tactic(auto, unfolding(crate::specs::Packages::package_of))]
 fn read_package(
     alloc: Global,

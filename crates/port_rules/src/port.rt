@@ -1,4 +1,4 @@
-//! The record of a port.
+//! The record of a port: what the port is, read from its variables.
 ghost use Rattle.std.specs.Prelude.{◌≡◌, map, string_bytes};
 ghost use Rattle.mk_base.specs.Stops.{GivesPurely};
 ghost use Rattle.port_rules.specs.Ports as ports;
@@ -13,13 +13,13 @@ use mk_env::Env;
 use std::alloc::{AllocError, Global};
 use std::marker::Model;
 
-/// What a port is, as its variables say (bsd.port.mk(5)). It never changes. Clauses see what it says.
+/// What a port is, as its variables say (bsd.port.mk(5)). A record never changes. Clauses see what it says.
 #[derive(Debug, Drop)]
 pub struct PortRecord {
     port: Box<Port>,
 }
 
-/// What a port is.
+/// What the record of a port says.
 #[derive(Debug, Drop)]
 struct Port {
     flavors: PortFlavors,
@@ -45,8 +45,8 @@ impl Model for PortRecord {
 }
 
 impl PortRecord {
-    /// The port of these flavors, with who maintains it, its categories, its packages, and what it
-    /// depends on. It fails only if memory runs out.
+    /// The record of a port of these flavors, with its maintainer, its categories, its packages and its
+    /// dependencies. It fails only if memory runs out.
     pub fn new(
         alloc: Global,
         flavors: PortFlavors,
@@ -69,35 +69,35 @@ impl PortRecord {
         })
     }
 
-    /// Its flavors.
+    /// The flavors in the record of a port.
     pub fn flavors(&self) -> &PortFlavors
         ensures { result.now ≡ self.now.flavors }
     {
         &self.port.flavors
     }
 
-    /// Who maintains it (MAINTAINER); empty if that isn't given.
+    /// The maintainer in the record of a port (MAINTAINER); empty if that isn't given.
     pub fn maintainer(&self) -> &str
         ensures { result.now ≡ self.now.maintainer }
     {
         self.port.maintainer.as_str()
     }
 
-    /// Its categories (CATEGORIES), in order.
+    /// The categories in the record of a port (CATEGORIES), in order.
     pub fn categories(&self) -> &[String]
         ensures { map string_bytes result.now ≡ self.now.categories }
     {
         self.port.categories.as_slice()
     }
 
-    /// Its packages, in the order of MULTI_PACKAGES; at least one.
+    /// The packages in the record of a port, in the order of MULTI_PACKAGES; at least one.
     pub fn packages(&self) -> &[Package]
         ensures { result.now ≡ self.now.packages }
     {
         self.port.packages.as_slice()
     }
 
-    /// Whether it has a package of this name, which has its dash, such as `-main`.
+    /// Whether the port of the record has a package of this name, which has its dash, such as `-main`.
     pub fn has_package(&self, subpackage: &str) -> bool
         ensures { result ≡ ports.has_package self.now subpackage.now }
     {
@@ -107,8 +107,8 @@ impl PortRecord {
             .any(|package| package.subpackage() == subpackage)
     }
 
-    /// What it depends on: to be built; then, for each package, what the package is linked with and what
-    /// it needs to run; then to be tested.
+    /// The dependencies in the record of a port: to be built; then, for each package, what the package is
+    /// linked with and what it needs to run; then to be tested.
     pub fn depends(&self) -> &[Depend]
         ensures { result.now ≡ self.now.depends }
     {
@@ -116,7 +116,7 @@ impl PortRecord {
     }
 }
 
-/// The port that these variables make.
+/// The record of the port that these variables make, in the budget that is given.
 #[tactic(auto, unfolding(crate::specs::Ports::port_of))]
 pub(crate) fn read_port(
     alloc: Global,

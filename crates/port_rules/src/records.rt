@@ -8,7 +8,7 @@ use mk_eval::{Evaluated, Failed, with_units};
 use mk_paths::Name;
 use std::alloc::Global;
 
-/// The record of a port, and the units of work that it cost.
+/// The record of a port, and the units that it cost.
 #[derive(Drop)]
 pub struct Recorded {
     /// What the port is.
@@ -17,8 +17,8 @@ pub struct Recorded {
     pub cost: u64,
 }
 
-/// What a port is, by the variables that the evaluation of its makefile, of this name, left
-/// (bsd.port.mk(5)), in a budget of 50,000 units of its own.
+/// The record of a port: what the port is, by the variables that the evaluation of its makefile, of this
+/// name, left (bsd.port.mk(5)). It has a budget of 50,000 units of its own.
 ///
 /// The variables are asked in this order. First come FLAVOR, FLAVORS, PSEUDO_FLAVORS, MULTI_PACKAGES,
 /// MAINTAINER and CATEGORIES. Then come, for each package, its name (FULLPKGNAME, or else PKGNAME,

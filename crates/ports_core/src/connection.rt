@@ -1,4 +1,4 @@
-//! One connection.
+//! One open connection of the service: what came, what waits, and what is pending on it.
 ghost use Rattle.std.specs.Prelude.{◌≡◌, IsTrue, true, ◌↔◌, [], IfOk};
 ghost use Rattle.ports_http.specs.UnreadBytes.{ended};
 ghost use Rattle.ports_http.specs.Replies.{reply_text, IsFixed};
@@ -24,7 +24,8 @@ impl Connection {
     ghost use Rattle.ports_core.specs.Connections.{new_connection, hears, room_on, is_ready, is_done, with_pending, answered, MayHappenTo};
     ghost use Rattle.ports_core.specs.Answers.{AreBytesOf};
 
-    /// A connection that has just opened, with all its buffers. It fails only if memory runs out.
+    /// A connection of the service that has just opened, with all its buffers. It fails only if memory runs
+    /// out.
     pub(crate) fn new(alloc: Global) -> Result<Connection, AllocError>
         ensures { IfOk result (λ connection. connection ≡ new_connection) }
     {
@@ -37,14 +38,14 @@ impl Connection {
         })
     }
 
-    /// How many bytes may come.
+    /// How many bytes may come on the connection.
     pub(crate) fn room(&self) -> usize
         ensures { result ≡ room_on self.now }
     {
         if self.ended { 0 } else { self.stream.room() }
     }
 
-    /// What an event does to the connection before a request is taken.
+    /// What an event does to the connection before a request is taken from it.
     pub(crate) fn hear(&mut self, event: &Event)
         requires { MayHappenTo event.now self.old }
         ensures { self.new ≡ hears event.now self.old }
@@ -59,6 +60,8 @@ impl Connection {
         }
     }
 
+    /// Loses the connection: its stream is over, nothing is pending any more, and the connection is marked as
+    /// lost.
     fn lose(&mut self)
         ensures { self.new ≡ record self.old { stream = ended; pending = []; lost = true } }
     {
@@ -67,15 +70,16 @@ impl Connection {
         self.lost = true;
     }
 
-    /// Whether the next request may be taken: nothing waits, nothing is pending, and
-    /// the connection isn't lost.
+    /// Whether the next request may be taken from the connection: nothing waits, nothing is pending, and the
+    /// connection isn't lost.
     pub(crate) fn is_ready(&self) -> bool
         ensures { result ≡ is_ready self.now }
     {
         self.waits.is_none() && self.pending.bytes().is_empty() && !self.lost
     }
 
-    /// Whether the connection closes: its stream has ended, and nothing waits or is pending.
+    /// Whether the connection is done, so that it closes: its stream has ended, and nothing waits or is
+    /// pending.
     pub(crate) fn is_done(&self) -> bool
         ensures { result ≡ is_done self.now }
     {
@@ -84,7 +88,7 @@ impl Connection {
             && (self.ended || self.stream.is_over())
     }
 
-    /// Tells a fixed reply at once. Its bytes are pending.
+    /// Tells a fixed reply on the connection at once. Its bytes are pending.
     pub(crate) fn tell(&mut self, conn: u64, reply: Reply, close: bool) -> Tell
         requires { IsFixed reply close }
         ensures told { result ≡ at_once conn reply }
@@ -109,8 +113,8 @@ impl Connection {
         }
     }
 
-    /// Answers the waiting request. If the connection isn't lost, the reply's bytes are pending: those that
-    /// are given, or those of a fixed reply.
+    /// Answers the waiting request of the connection. If the connection isn't lost, the reply's bytes are
+    /// pending: those that are given, or those of a fixed reply.
     pub(crate) fn answer(&mut self, reply: &Reply, bytes: Option<Vec<u8>>)
         requires { AreBytesOf reply.now self.old.stream.over bytes }
         ensures { self.new ≡ answered reply.now self.old }

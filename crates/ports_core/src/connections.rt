@@ -1,4 +1,4 @@
-//! The open connections, by their numbers.
+//! The open connections of the service, by their numbers.
 ghost use Rattle.std.specs.Prelude.{◌≡◌, ◌≤◌, ◌↔◌, IsTrue, length};
 ghost use Rattle.ports_core.specs.Connections.{closes_on};
 ghost use Rattle.ports_core.specs.Answers.{AreBytesOf};
@@ -18,11 +18,11 @@ use std::collections::BTreeMap;
 /// The most connections, and so the most requests that wait: one of each.
 pub(crate) const MOST_CONNECTIONS: usize = 16;
 
-/// The open connections, by their numbers.
+/// The open connections of the service, by their numbers.
 pub(crate) type Connections = BTreeMap<u64, Connection>;
 
-/// Carries out an event of an open connection: what it does to the connection, and what is then taken off
-/// that. It gives what the event tells. The connection closes if it is done.
+/// Carries out an event of an open connection: what it does to the connection, and the next request that is
+/// then taken. It gives what the event tells. The connection closes if it is done.
 pub(crate) fn hear_connection(
     alloc: Global,
     keys: &[String],
@@ -46,7 +46,7 @@ pub(crate) fn hear_connection(
     Told::of(reply, closed)
 }
 
-/// Whether a reply on a connection says that the connection closes: its request was the last of its stream.
+/// Whether a reply on one of the connections says that it closes: its request was the last of its stream.
 /// False if the connection isn't open.
 pub(crate) fn closes(connections: &Connections, conn: u64) -> bool
     ensures { result ≡ closes_on (connection_in conn connections.now.entries) }
@@ -57,7 +57,7 @@ pub(crate) fn closes(connections: &Connections, conn: u64) -> bool
     }
 }
 
-/// Answers the waiting request of a connection, if the connection is open.
+/// Answers the waiting request of one of the connections, if that is open.
 pub(crate) fn answer_connection(
     connections: &mut Connections,
     conn: u64,
@@ -74,8 +74,8 @@ pub(crate) fn answer_connection(
     }
 }
 
-/// Closes a connection if its stream has ended, nothing waits and nothing is pending. It gives the number
-/// of the connection if that closes.
+/// Closes one of the open connections if its stream has ended, nothing waits and nothing is pending. It gives
+/// the number of the connection if that closes.
 pub(crate) fn close_done(connections: &mut Connections, conn: u64) -> Option<u64>
     ensures count { length connections.new.entries ≤ length connections.old.entries }
     ensures closed { TellsClosing conn connections.old.entries result }
@@ -89,6 +89,7 @@ pub(crate) fn close_done(connections: &mut Connections, conn: u64) -> Option<u64
     Some(conn)
 }
 
+/// Whether one of the open connections is done: its stream has ended, and nothing waits or is pending.
 fn is_connection_done(connections: &Connections, conn: u64) -> bool
     ensures { result ≡ is_connection_done (connection_in conn connections.now.entries) }
 {
@@ -98,7 +99,7 @@ fn is_connection_done(connections: &Connections, conn: u64) -> bool
     }
 }
 
-/// Whether an event may happen to a connection now: it is open, and the event fits it.
+/// Whether an event may happen to one of the connections now: that is open, and the event fits it.
 pub(crate) fn may_hear(connections: &Connections, conn: u64, event: &Event) -> bool
     ensures { IsTrue result ↔ MayHear (connection_in conn connections.now.entries) event.now }
 {

@@ -1,4 +1,4 @@
-//! What happens to a service, and what it tells.
+//! Events, which happen to a service, and what each tells.
 ghost use Rattle.std.specs.Prelude.{◌≡◌, Some, None};
 ghost use Rattle.ports_core.specs.Tell.{CountsNone, spent_as_told};
 
@@ -56,7 +56,7 @@ pub struct Told {
 }
 
 impl Told {
-    /// Nothing is told.
+    /// An event tells nothing.
     pub(crate) fn nothing() -> Told
         ensures reply { result.reply ≡ None }
         ensures refused { result.refused ≡ None }
@@ -66,7 +66,7 @@ impl Told {
         Told::of(None, None)
     }
 
-    /// A reply is told, or none, and a connection closes, or none.
+    /// An event tells a reply, or none, and that a connection closes, or none.
     pub(crate) fn of(reply: Option<Tell>, closed: Option<u64>) -> Told
         ensures reply { result.reply ≡ reply }
         ensures refused { result.refused ≡ None }
@@ -82,7 +82,7 @@ impl Told {
         }
     }
 
-    /// A turn tells no reply yet, and that this was spent.
+    /// The event of a turn tells no reply yet, and that this was spent.
     pub(crate) fn spending(spent: Spent) -> Told
         ensures reply { result.reply ≡ None }
         ensures refused { result.refused ≡ None }
@@ -98,7 +98,7 @@ impl Told {
         }
     }
 
-    /// A turn tells this reply, for which this was spent, and a connection closes, or none.
+    /// The event of a turn tells this reply, for which this was spent, and that a connection closes, or none.
     pub(crate) fn answer(tell: Tell, closed: Option<u64>, spent: Spent) -> Told
         ensures reply { result.reply ≡ Some tell }
         ensures refused { result.refused ≡ None }
@@ -112,7 +112,7 @@ impl Told {
         }
     }
 
-    /// A connection isn't opened.
+    /// An event tells that a connection isn't opened.
     pub(crate) fn refusal(refused: Refused) -> Told
         ensures reply { result.reply ≡ None }
         ensures refused { result.refused ≡ Some refused }

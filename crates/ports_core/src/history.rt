@@ -1,4 +1,4 @@
-//! A whole run.
+//! The history of a whole run of events over a service: what each told and sent.
 ghost use Rattle.std.specs.Prelude.{◌≡◌, IfErr, IfOk, OnOk};
 ghost use Rattle.refusals.specs.Refused.{refused};
 ghost use Rattle.ports_core.specs.State.{IsAllowed};
@@ -33,14 +33,14 @@ impl Model for Step {
     ghost view = { step_view };
 }
 
-/// A run: one step for each event, and the service as the last event left it.
+/// The history of a run: one step for each event, and the service as the last event left it.
 #[derive(Drop)]
 pub struct Transcript<K: Tenants> {
     pub steps: Vec<Step>,
     pub service: Service<K>,
 }
 
-/// Why a run stopped.
+/// Why a run of events stopped.
 #[derive(Drop)]
 pub enum ReplayFault<K: Tenants> {
     /// The event at this place isn't allowed; the transcript is that of the events before it.
@@ -54,6 +54,7 @@ pub enum ReplayFault<K: Tenants> {
 impl<K: Tenants> From<NewFault> for ReplayFault<K> {
     ghost from_gives = { λ why fault. fault ≡ faults.New why };
 
+    /// The fault that a run of events stopped since the service couldn't begin.
     fn from(fault: NewFault) -> ReplayFault<K> {
         ReplayFault::New(fault)
     }
@@ -62,6 +63,7 @@ impl<K: Tenants> From<NewFault> for ReplayFault<K> {
 impl<K: Tenants> From<AllocError> for ReplayFault<K> {
     ghost from_gives = { λ _ fault. fault ≡ faults.Memory refused };
 
+    /// The fault that a run of events stopped since there was no memory.
     fn from(error: AllocError) -> ReplayFault<K> {
         ReplayFault::Memory(OutOfMemory::from(error))
     }
@@ -70,6 +72,7 @@ impl<K: Tenants> From<AllocError> for ReplayFault<K> {
 impl<K: Tenants, T: Drop> From<AllocFailed<T>> for ReplayFault<K> {
     ghost from_gives = { λ _ fault. fault ≡ faults.Memory refused };
 
+    /// The fault that a run of events stopped since there was no memory for one more step.
     fn from(error: AllocFailed<T>) -> ReplayFault<K> {
         ReplayFault::Memory(OutOfMemory::from(error))
     }
@@ -112,7 +115,7 @@ pub fn replay<K: Tenants>(
     Ok(Transcript { steps, service })
 }
 
-/// The bytes that an event takes off its connection.
+/// The bytes that an event takes off its connection, as the step of a run has them.
 fn bytes_sent<K: Tenants>(
     alloc: Global,
     service: &Service<K>,

@@ -1,4 +1,4 @@
-//! Taking the next request off a connection.
+//! The intake of requests: the next one is taken off a connection, and put in its tenant's queue or refused.
 ghost use Rattle.std.specs.Prelude.{◌≡◌, true, All, length};
 ghost use Rattle.ports_core.specs.Keys.{key_texts};
 ghost use Rattle.ports_core.specs.Connections.{is_ready};
@@ -13,7 +13,7 @@ use crate::queue::Queue;
 use ports_http::{HeadFault, Reply, Request, TakeError};
 use std::alloc::Global;
 
-/// Takes the request that comes first on a connection, if nothing waits and nothing is pending there. A
+/// Takes in the request that comes first on a connection, if nothing waits and nothing is pending there. A
 /// request with a known key waits for its tenant's turn. Any other request is answered at once with a fixed
 /// reply. So is a head refusal, and a request for whose own bytes there is no memory.
 pub(crate) fn take_next(
@@ -34,8 +34,8 @@ pub(crate) fn take_next(
     settle(keys, queues, conn, connection, answer)
 }
 
-/// What becomes of what a connection handed out. A fixed reply that says that the store failed is told only
-/// if there was no memory for the request itself.
+/// Deals with what a connection handed out: a request, a head refusal or nothing. A fixed reply that says
+/// that the store failed is told only if there was no memory for the request itself.
 fn settle(
     keys: &[String],
     queues: &mut [Queue],
@@ -61,7 +61,8 @@ fn settle(
     }
 }
 
-/// Puts a request in its tenant's queue. A request without a known key is refused at once.
+/// Puts a request that was taken off a connection in its tenant's queue. A request without a known key is
+/// refused at once.
 fn admit(
     keys: &[String],
     queues: &mut [Queue],

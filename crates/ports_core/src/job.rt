@@ -1,8 +1,9 @@
-//! What a tenant's first request has had so far.
+//! The job of a tenant: what its first request has had so far.
 ghost use Rattle.std.specs.Prelude.{◌≡◌};
 ghost use Rattle.ports_core.specs.Jobs.{no_job};
 
-/// What a tenant's first request has had so far, while it isn't answered. All counts stop at 2^64 - 1.
+/// The job of a tenant: what its first request has had so far, while it isn't answered. All counts stop at
+/// 2^64 - 1.
 #[derive(Clone, Copy, Debug, PartialEq, Eq)]
 pub struct Job {
     /// The turns in which work was done for it.
@@ -14,7 +15,7 @@ pub struct Job {
 }
 
 impl Job {
-    /// Nothing so far.
+    /// The job of a tenant whose first request has had nothing so far.
     pub fn nothing() -> Job
         ensures { result ≡ no_job }
     {

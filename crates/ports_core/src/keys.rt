@@ -7,7 +7,7 @@ ghost use Rattle.ports_core.specs.Keys.{is_size, is_count, is_key, is_key_byte, 
 /// The most tenants, and the most bytes of a key.
 const MOST: usize = 64;
 
-/// The greatest size of a cache.
+/// The greatest size of a cache, in parses or in evaluations.
 const GREATEST_SIZE: u32 = 65_536;
 
 /// What a service begins with: the tenants' keys, in the order of the tenants' numbers, and how many
@@ -25,7 +25,7 @@ pub struct Config {
 impl Config {
     ghost use Rattle.ports_core.specs.Keys.{is_fit};
 
-    /// Whether a service can begin with this config.
+    /// Whether the keys and the sizes are fit, so that a service can begin with this config.
     pub fn is_fit(&self) -> bool
         ensures { result ≡ is_fit self.now }
     {
@@ -33,19 +33,21 @@ impl Config {
     }
 }
 
+/// Whether the cache of a config may have this size: 1 to 65,536.
 fn is_size(size: u32) -> bool
     ensures { result ≡ is_size size }
 {
     1 <= size && size <= GREATEST_SIZE
 }
 
+/// Whether there may be so many keys, or a key may have so many bytes: 1 to 64.
 fn is_count(count: usize) -> bool
     ensures { result ≡ is_count count }
 {
     1 <= count && count <= MOST
 }
 
-/// Whether the tenants can have these keys.
+/// Whether the tenants can have these keys: there are 1 to 64, each can be a key, and none is there twice.
 #[tactic(auto, using(crate::proofs::KeyLemmas::texts_of_keys))]
 fn are_keys(keys: &[String]) -> bool
     ensures { result ≡ are_keys (key_texts keys.now) }
@@ -53,27 +55,28 @@ fn are_keys(keys: &[String]) -> bool
     is_count(keys.len()) && are_all_keys(keys) && are_apart(keys)
 }
 
+/// Whether each of these texts can be the key of a tenant.
 fn are_all_keys(keys: &[String]) -> bool
     ensures { result ≡ list_all (λ key. is_key (string_bytes key)) keys.now }
 {
     keys.iter().all(is_key)
 }
 
-/// Whether a text can be a key.
+/// Whether a text can be the key of a tenant.
 fn is_key(key: &String) -> bool
     ensures { result ≡ is_key (string_bytes key.now) }
 {
     is_count(key.len()) && is_plain(key.as_str())
 }
 
-/// Whether each byte is printable ASCII that isn't a blank.
+/// Whether each byte of a key is printable ASCII that isn't a blank.
 fn is_plain(text: &str) -> bool
     ensures { result ≡ list_all is_key_byte text.now }
 {
     text.bytes().all(|byte| 33 <= byte && byte <= 126)
 }
 
-/// Whether no key is there twice.
+/// Whether no key of a tenant is there twice.
 fn are_apart(keys: &[String]) -> bool
     ensures { result ≡ are_apart (key_texts keys.now) }
 {
@@ -86,7 +89,7 @@ fn are_apart(keys: &[String]) -> bool
     true
 }
 
-/// The tenant whose key this is. `None` if there is no key, or if it is no tenant's.
+/// The number of the tenant whose key a request has. `None` if there is no key, or if it is no tenant's.
 pub(crate) fn place_of(keys: &[String], key: &Option<Vec<u8>>) -> Option<usize>
     ensures place { result ≡ tenant_of (key_texts keys.now) (option_map (λ k. k.items) key.now) }
     ensures within { IfSome result (λ place. place < length keys.now) }
@@ -97,7 +100,7 @@ pub(crate) fn place_of(keys: &[String], key: &Option<Vec<u8>>) -> Option<usize>
     }
 }
 
-/// The place of the first key with these bytes.
+/// The place of the first tenant's key with these bytes.
 fn place_among(keys: &[String], key: &[u8]) -> Option<usize>
     ensures place { result ≡ position (λ known. bytes_eq (string_bytes known) key.now) keys.now }
     ensures within { IfSome result (λ place. place < length keys.now) }

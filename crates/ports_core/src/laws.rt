@@ -1,4 +1,4 @@
-//! What holds of every run, as functions that do nothing.
+//! What holds of every run of a service, as functions that do nothing.
 ghost use Rattle.ports_core.specs.Changes.{EachEventChangesSoMuch};
 ghost use Rattle.ports_core.specs.Books.{OneListIsTaken};
 ghost use Rattle.ports_core.specs.Alike.{EqualRequestsAreToldAlike};

@@ -1,4 +1,4 @@
-//! The bytes that a connection has still to write.
+//! The outbox of a connection: the bytes of a reply that are still to be written.
 ghost use Rattle.std.specs.Prelude.{◌≡◌, ◌≤◌, [], drop, length, Bool, IfOk};
 ghost use Rattle.ports_http.specs.Replies.{reply_text, IsFixed};
 
@@ -6,7 +6,7 @@ use ports_http::{Reply, write_fixed};
 use std::alloc::{AllocError, Global};
 use std::marker::Model;
 
-/// What is reserved for a fixed reply, in bytes.
+/// How many bytes an outbox reserves for a fixed reply.
 const RESERVED: usize = 256;
 
 /// The bytes of a reply that are still to be written. A fixed reply is in a buffer that is reserved from
@@ -32,7 +32,7 @@ impl Model for Outbox {
 }
 
 impl Outbox {
-    /// No bytes, and the room for a fixed reply. It fails only if memory runs out.
+    /// An outbox without bytes, and with room for a fixed reply. It fails only if memory runs out.
     #[tactic(auto, unfolding(ports_http::specs::Limits::fixed_limit))]
     pub(crate) fn new(alloc: Global) -> Result<Outbox, AllocError>
         ensures { IfOk result (λ outbox. outbox ≡ []) }
@@ -44,7 +44,7 @@ impl Outbox {
         })
     }
 
-    /// The bytes.
+    /// The bytes in the outbox that are still to be written.
     pub(crate) fn bytes(&self) -> &[u8]
         ensures { result.now ≡ self.now }
     {
@@ -54,7 +54,7 @@ impl Outbox {
         }
     }
 
-    /// Takes the first bytes off.
+    /// Takes the first bytes off the outbox, which were written.
     pub(crate) fn take_off(&mut self, count: usize)
         requires { count ≤ length self.old }
         ensures { self.new ≡ drop count self.old }
@@ -62,7 +62,7 @@ impl Outbox {
         self.written += count;
     }
 
-    /// Drops the bytes.
+    /// Drops all bytes in the outbox.
     pub(crate) fn clear(&mut self)
         ensures { self.new ≡ [] }
     {
@@ -71,7 +71,7 @@ impl Outbox {
         self.written = 0;
     }
 
-    /// From now on the bytes are these.
+    /// Puts the bytes of a reply into the outbox, in place of what it had.
     pub(crate) fn put(&mut self, bytes: Vec<u8>)
         ensures { self.new ≡ bytes.items }
     {
@@ -79,7 +79,7 @@ impl Outbox {
         self.written = 0;
     }
 
-    /// From now on the bytes are those of a fixed reply. It takes no memory.
+    /// Puts the bytes of a fixed reply into the outbox, in place of what it had. It takes no memory.
     pub(crate) fn put_fixed(&mut self, reply: &Reply, close: bool)
         requires { IsFixed reply.now close }
         ensures { self.new ≡ reply_text reply.now close }

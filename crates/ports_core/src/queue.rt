@@ -1,4 +1,4 @@
-//! The requests that wait for a tenant's turns.
+//! The queue of a tenant: the requests that wait for its turns.
 ghost use Rattle.std.specs.Prelude.{◌≡◌, ◌∷◌, ◌++◌, [], length, IfOk, IfSome, IfNone, option_copied};
 
 use crate::connections::MOST_CONNECTIONS;
@@ -37,7 +37,7 @@ impl Queue {
     ghost use Rattle.ports_core.specs.Places.{HasPlace};
     ghost use Rattle.ports_core.specs.Jobs.{first_of};
 
-    /// No request waits. It fails only if there is no memory for the places.
+    /// A tenant's queue in which no request waits. It fails only if there is no memory for the places.
     pub(crate) fn new(alloc: Global) -> Result<Queue, AllocError>
         ensures { IfOk result (λ queue. queue ≡ []) }
     {
@@ -46,14 +46,14 @@ impl Queue {
         })
     }
 
-    /// How many requests wait.
+    /// How many requests wait in the queue.
     pub(crate) fn len(&self) -> usize
         ensures { result ≡ length self.now }
     {
         self.waiting.len()
     }
 
-    /// Adds a request, which waits after the others. It takes no memory.
+    /// Adds a request at the end of the queue, where it waits after the others. It takes no memory.
     pub(crate) fn join(&mut self, conn: u64, request: Request)
         requires { HasPlace self.old }
         ensures { self.new ≡ self.old ++ record { conn = conn; request = request } ∷ [] }
@@ -62,14 +62,14 @@ impl Queue {
             .push_back_reserved(QueuedRequest { conn, request });
     }
 
-    /// The request that waited longest. `None` if no request waits.
+    /// The first request of the queue, which waited longest. `None` if no request waits.
     pub(crate) fn first(&self) -> Option<&QueuedRequest>
         ensures { option_copied result ≡ first_of self.now }
     {
         self.waiting.front()
     }
 
-    /// Takes the request that waited longest off the queue. `None` if no request waits.
+    /// Takes the first request off the queue, which waited longest. `None` if no request waits.
     pub(crate) fn next(&mut self) -> Option<QueuedRequest>
         ensures some { IfSome result (λ queued_request. self.old ≡ queued_request ∷ self.new) }
         ensures none { IfNone result (self.old ≡ []) }

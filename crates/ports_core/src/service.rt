@@ -1,4 +1,4 @@
-//! The service, one event at a time.
+//! The service, which changes by one event at a time.
 ghost use Rattle.std.specs.Prelude.{◌≡◌, ◌<◌, ◌↔◌, false, Bool, [], IsTrue, IfOk, IsErrOf, length, replicate};
 ghost use Rattle.refusals.specs.Refused.{refused};
 ghost use Rattle.plain_service.specs.Outcomes.{IfMade};
@@ -40,6 +40,7 @@ pub enum NewFault {
 impl From<AllocError> for NewFault {
     ghost from_gives = { λ _ fault. fault ≡ Memory refused };
 
+    /// The fault that a service can't begin since there was no memory.
     fn from(error: AllocError) -> NewFault {
         NewFault::Memory(OutOfMemory::from(error))
     }
@@ -48,6 +49,8 @@ impl From<AllocError> for NewFault {
 impl From<FilesFault> for NewFault {
     ghost from_gives = { λ why fault. fault ≡ new_fault why };
 
+    /// The fault that a service can't begin since the store of the worlds failed, or since there was no
+    /// memory.
     fn from(why: FilesFault) -> NewFault {
         match why {
             FilesFault::Store(refusal) => NewFault::Store(refusal),
@@ -137,21 +140,21 @@ impl<K: Tenants> Service<K> {
         })
     }
 
-    /// The number of the next connection that opens.
+    /// The number of the next connection that the service opens.
     pub fn next_conn(&self) -> u64
         ensures { result ≡ next_of self.now }
     {
         self.next
     }
 
-    /// How many tenants there are.
+    /// How many tenants the service has.
     pub fn tenants(&self) -> usize
         ensures { result ≡ length (keys_of self.now) }
     {
         self.keys.len()
     }
 
-    /// The numbers of the open connections, in rising order.
+    /// The numbers of the service's open connections, in rising order.
     pub fn connections(&self) -> ArrayVec<u64, MOST_CONNECTIONS>
         ensures { result.items ≡ connections_of self.now }
     {
@@ -162,7 +165,7 @@ impl<K: Tenants> Service<K> {
         numbers
     }
 
-    /// How many bytes a connection may send; 0 if it isn't open.
+    /// How many bytes a connection of the service may send; 0 if it isn't open.
     pub fn room(&self, conn: u64) -> usize
         ensures { result ≡ room_at conn self.now }
     {
@@ -172,7 +175,7 @@ impl<K: Tenants> Service<K> {
         }
     }
 
-    /// The bytes that a connection has still to write; none if it isn't open.
+    /// The bytes that a connection of the service has still to write; none if it isn't open.
     pub fn pending(&self, conn: u64) -> &[u8]
         ensures { result.now ≡ pending_at conn self.now }
     {
@@ -182,15 +185,15 @@ impl<K: Tenants> Service<K> {
         }
     }
 
-    /// Limits the steps of each later statement of what keeps the worlds, or removes the limit. A request
-    /// whose statement would take more is answered 503. It changes nothing that a contract sees.
+    /// Limits the steps of each later statement of what keeps the service's worlds, or removes the limit. A
+    /// request whose statement would take more is answered 503. It changes nothing that a contract sees.
     pub fn limit_steps(&mut self, limit: Option<u64>)
         ensures { self.new ≡ self.old }
     {
         self.worlds.limit_steps(limit);
     }
 
-    /// How many requests wait in a tenant's queue; 0 if there is no such tenant.
+    /// How many requests wait in the queue of one of the service's tenants; 0 if there is no such tenant.
     pub fn waiting(&self, tenant: usize) -> usize
         ensures { result ≡ waiting_at tenant self.now }
     {
@@ -200,21 +203,22 @@ impl<K: Tenants> Service<K> {
         }
     }
 
-    /// What a tenant's first request has had so far; nothing if none waits or there is no such tenant.
+    /// What the first request of one of the service's tenants has had so far; nothing if none waits or there
+    /// is no such tenant.
     pub fn job(&self, tenant: usize) -> Job
         ensures { result ≡ had_at tenant self.now }
     {
         self.worlds.job(tenant)
     }
 
-    /// How often something was used that is kept for all tenants.
+    /// How often something was used that the service keeps for all tenants.
     pub fn counts(&self) -> Counts
         ensures { result ≡ (sharing_of self.now).counts }
     {
         self.worlds.counts()
     }
 
-    /// Whether an event may happen now.
+    /// Whether an event may happen to the service now.
     pub fn allows(&self, event: &Event) -> bool
         ensures { IsTrue result ↔ IsAllowed event.now self.now }
     {
@@ -228,8 +232,8 @@ impl<K: Tenants> Service<K> {
         }
     }
 
-    /// Carries out an event that is allowed now, and gives what it tells. The units and checks that it tells are at
-    /// most 51,000 together.
+    /// Carries out an event that the service allows now, and gives what it tells. The units and checks that
+    /// it tells are at most 51,000 together.
     pub fn step(&mut self, event: &Event) -> Told
         requires { IsAllowed event.now self.old }
         ensures does { Does event.now result self.old self.new }
@@ -248,6 +252,8 @@ impl<K: Tenants> Service<K> {
         }
     }
 
+    /// Opens a connection of the service, under the next number, unless too many are open or there is no
+    /// memory.
     fn open(&mut self) -> Told
         ensures opens { Opens result self.old self.new }
         ensures counts { CountsNone result }
@@ -268,6 +274,7 @@ impl<K: Tenants> Service<K> {
         Told::nothing()
     }
 
+    /// Carries out an event of an open connection: bytes came, its end, its loss, or bytes that were written.
     fn hear(&mut self, conn: u64, event: &Event) -> Told
         requires { OpenAnd (connection_of conn self.old) (MayHappenTo event.now) }
         ensures hears { Hears event.now conn result self.old self.new }
@@ -286,6 +293,8 @@ impl<K: Tenants> Service<K> {
         )
     }
 
+    /// Carries out a tenant's turn: work for its first waiting request, whose reply is told if there is an
+    /// answer.
     fn turn(&mut self, tenant: usize) -> Told
         requires { tenant < length (keys_of self.old) }
         ensures turns { Turns tenant result self.old self.new }
@@ -316,6 +325,7 @@ impl<K: Tenants> Service<K> {
     }
 }
 
+/// So many queues in which no request waits, one for each tenant. It fails only if memory runs out.
 fn new_queues(alloc: Global, count: usize) -> Result<Vec<Queue>, AllocError>
     ensures { IfOk result (λ queues. queues.items ≡ replicate count []) }
 {

@@ -1,4 +1,4 @@
-//! The tenants' worlds and jobs, as the service needs them.
+//! The trait of what keeps the tenants' worlds and jobs, as the service needs them.
 ghost use Rattle.std.specs.Prelude.{◌≡◌, ◌<◌, true, List, Option, length, IfOk, IfSome};
 ghost use Rattle.mk_paths.specs.World.{World};
 ghost use Rattle.ports_core.specs.Answers.{AreBytesOf};
@@ -26,7 +26,7 @@ pub struct Answer {
     pub bytes: Option<Vec<u8>>,
 }
 
-/// What was done for a tenant's first request in a turn.
+/// What was done for a tenant's first request in a turn of the tenant.
 #[derive(Drop)]
 pub struct Worked {
     /// The answer; `None` if what was begun for the request isn't at its end.
@@ -89,11 +89,12 @@ pub trait Tenants: Sized + Drop {
         ensures job_count { length (jobs self.new) ≡ length (jobs self.old) }
         ensures uses { IsUsed (sharing self.old) (sharing self.new) };
 
-    /// What a tenant's job has had so far: nothing, if nothing is under way, or if there is no such tenant.
+    /// What the job of a tenant has had so far: nothing, if nothing is under way, or if there is no such
+    /// tenant.
     fn job(&self, tenant: usize) -> Job
         ensures { result ≡ had_by (job_in tenant (jobs self.now)) };
 
-    /// How often something that was kept was used.
+    /// How often something that is kept for all tenants was used.
     fn counts(&self) -> Counts
         ensures { result ≡ (sharing self.now).counts };
 

@@ -1,4 +1,4 @@
-//! What a head announces of its request.
+//! What the head of a request announces: the method, and the length of the body.
 ghost use Rattle.std.specs.Prelude.{◌≡◌, length, codes, All, Option, Result, Ok, Err};
 ghost use Rattle.httparse.specs.Spans.{IsHeaderWithin};
 ghost use Rattle.ports_http.specs.Fields.{field_values};
@@ -10,10 +10,11 @@ use crate::fields::{Occurs, find, length_of};
 use crate::method::{Method, method_of};
 use httparse::spans::HeaderSpan;
 
-/// The most bytes of a body.
+/// The most bytes of a request's body.
 const BODY_LIMIT: u64 = 131_072;
 
-/// The method, and how many bytes the body has; or the first refusal that fits.
+/// What a request's head announces: the method, and how many bytes the body has; or the first refusal that
+/// fits.
 #[tactic(auto, unfolding(crate::specs::Heads::announced))]
 pub(crate) fn announced(
     word: &[u8],
@@ -32,6 +33,7 @@ pub(crate) fn announced(
     Ok((method, length))
 }
 
+/// Refuses a head that announces a Transfer-Encoding.
 fn no_coding(buf: &[u8], fields: &[HeaderSpan]) -> Result<(), HeadFault>
     requires { All (IsHeaderWithin (length buf.now)) fields.now }
     ensures { result ≡ no_coding (values_in buf.now fields.now (codes "transfer-encoding")) }
@@ -42,6 +44,7 @@ fn no_coding(buf: &[u8], fields: &[HeaderSpan]) -> Result<(), HeadFault>
     }
 }
 
+/// Refuses a head with more than one Host, or with none if the request is of HTTP/1.1.
 fn one_host(minor: u8, buf: &[u8], fields: &[HeaderSpan]) -> Result<(), HeadFault>
     requires { All (IsHeaderWithin (length buf.now)) fields.now }
     ensures { result ≡ one_host minor (field_values (codes "host") (named buf.now fields.now)) }
@@ -53,6 +56,8 @@ fn one_host(minor: u8, buf: &[u8], fields: &[HeaderSpan]) -> Result<(), HeadFaul
     }
 }
 
+/// The length of the body that a head's Content-Length announces, if there is one; more than one, or a bad
+/// one, is refused.
 fn stated_length(buf: &[u8], fields: &[HeaderSpan]) -> Result<Option<u64>, HeadFault>
     requires { All (IsHeaderWithin (length buf.now)) fields.now }
     ensures { result ≡ stated_length (values_in buf.now fields.now (codes "content-length")) }
@@ -67,6 +72,8 @@ fn stated_length(buf: &[u8], fields: &[HeaderSpan]) -> Result<Option<u64>, HeadF
     }
 }
 
+/// The length of a request's body by its method and the length that is announced: a PUT must have one, and
+/// none may be over 131,072.
 #[tactic(auto, unfolding(crate::specs::Limits::body_limit))]
 fn body_length(method: Method, stated: Option<u64>) -> Result<usize, HeadFault>
     ensures { result ≡ body_length method stated }

@@ -1,4 +1,4 @@
-//! The bytes of one connection that aren't taken yet.
+//! The unread bytes of one connection, from which requests are taken.
 ghost use Rattle.std.specs.Prelude.{◌≡◌, ◌+◌, ◌≤◌, length, drop, vec_len, vec_capacity, IfOk, IfSome, IsUtf8};
 ghost use Rattle.httparse.specs.Spans.{IsWithin, span_bytes};
 ghost use Rattle.ports_http.specs.UnreadBytes.{opening_stream, ended, room_of, fed, passed, TakesOrLoses};
@@ -44,7 +44,8 @@ impl Model for Conn {
 }
 
 impl Conn {
-    /// A connection that has just opened, with all its buffers reserved. It fails only if memory runs out.
+    /// The unread bytes of a connection that has just opened: none, with all buffers reserved. It fails only
+    /// if memory runs out.
     pub fn new(alloc: Global) -> Result<Conn, AllocError>
         ensures { IfOk result (λ conn. conn ≡ opening_stream) }
     {
@@ -56,7 +57,8 @@ impl Conn {
         })
     }
 
-    /// How many bytes may be fed: 139,264 less those that are unread, and none once the stream is over.
+    /// How many bytes a connection's stream may be fed: 139,264 less those that are unread, and none once the
+    /// stream is over.
     pub fn room(&self) -> usize
         ensures { result ≡ room_of self.now }
     {
@@ -66,15 +68,15 @@ impl Conn {
         UNREAD_LIMIT - (self.buffer.len() - self.start)
     }
 
-    /// Whether the stream is over: a request that closes or a head refusal was taken, or `close` was
-    /// called. Then nothing more is taken.
+    /// Whether the connection's stream is over: a request that closes or a head refusal was taken, or `close`
+    /// was called. Then nothing more is taken.
     pub fn is_over(&self) -> bool
         ensures { result ≡ self.now.over }
     {
         self.over
     }
 
-    /// Adds the bytes after those that are unread. It takes no memory.
+    /// Adds bytes that came on the connection after those that are unread. It takes no memory.
     pub fn feed(&mut self, bytes: &[u8])
         requires { length bytes.now ≤ room_of self.old }
         ensures { self.new ≡ fed self.old bytes.now }
@@ -84,7 +86,7 @@ impl Conn {
         self.missing = self.missing.saturating_sub(bytes.len());
     }
 
-    /// Ends the stream, and drops what is unread.
+    /// Ends the connection's stream, and drops its unread bytes.
     pub fn close(&mut self)
         ensures { self.new ≡ ended }
     {
@@ -94,7 +96,7 @@ impl Conn {
         self.over = true;
     }
 
-    /// Passes over a request of this many bytes.
+    /// Passes over a request of this many bytes, which was taken from the connection's unread bytes.
     fn pass(&mut self, size: usize, close: bool)
         requires { size ≤ length self.old.unread }
         ensures { self.new ≡ passed self.old size close }
@@ -107,9 +109,10 @@ impl Conn {
         }
     }
 
-    /// Takes the request that comes first, or its head refusal. A refusal ends the stream, and so does a
-    /// request that closes. `None` if the stream is over, or if no whole request is there yet. If there is
-    /// no memory for the request, the error is `TakeError::Memory`, and its bytes are lost.
+    /// Takes the request that comes first in the connection's unread bytes, or its head refusal. A refusal
+    /// ends the stream, and so does a request that closes. `None` if the stream is over, or if no whole
+    /// request is there yet. If there is no memory for the request, the error is `TakeError::Memory`, and its
+    /// bytes are lost.
     pub fn next_request(
         &mut self,
         alloc: Global,
@@ -144,8 +147,8 @@ impl Conn {
     }
 }
 
-/// Makes room for more bytes. If they don't fit at the end, the bytes from `start` on move to the front. It
-/// gives where these begin then.
+/// Makes room in a connection's buffer for more bytes. If they don't fit at the end, the unread bytes, those
+/// from `start` on, move to the front. It gives where these begin then.
 fn make_room(buffer: &mut Vec<u8>, start: usize, more: usize) -> usize
     requires start { start ≤ vec_len buffer.old }
     requires fits { vec_len buffer.old + more ≤ vec_capacity buffer.old + start }
@@ -163,7 +166,7 @@ fn make_room(buffer: &mut Vec<u8>, start: usize, more: usize) -> usize
     0
 }
 
-/// The request whose parts are there. It fails only if memory runs out.
+/// The request whose parts are in the unread bytes. It fails only if memory runs out.
 fn request_at(alloc: Global, unread: &[u8], whole: &Whole) -> Result<Request, AllocError>
     requires within { IsWholeWithin unread.now whole.now }
     requires text { IsUtf8 (span_bytes unread.now whole.now.target) }
@@ -179,6 +182,7 @@ fn request_at(alloc: Global, unread: &[u8], whole: &Whole) -> Result<Request, Al
     })
 }
 
+/// The key of a request, copied from the unread bytes, if the request has one.
 fn key_at(alloc: Global, unread: &[u8], key: Option<Span>) -> Result<Option<Vec<u8>>, AllocError>
     requires { IfSome key (IsWithin (length unread.now)) }
     ensures { GivesKey result unread.now key }

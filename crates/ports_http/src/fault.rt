@@ -1,4 +1,4 @@
-//! Why a head is refused.
+//! Why the head of a request is refused, and the reply to that.
 ghost use Rattle.std.specs.Prelude.{◌≡◌, Bool};
 ghost use Rattle.ports_http.specs.Replies.{fault_status, fault_reply, IsFixed};
 
@@ -6,7 +6,7 @@ use crate::reply::{Body, Reply};
 use http::StatusCode;
 use thiserror::Error;
 
-/// Why a head is refused. If several reasons fit, the first in this order is given.
+/// Why the head of a request is refused. If several reasons fit, the first in this order is given.
 #[derive(Clone, Copy, Debug, PartialEq, Eq, Error)]
 pub enum HeadFault {
     /// The bytes begin no head, whatever follows: 400.
@@ -36,7 +36,7 @@ pub enum HeadFault {
 }
 
 impl HeadFault {
-    /// The status that answers the refusal.
+    /// The HTTP status that answers the refusal of a head.
     pub fn status(self) -> StatusCode
         ensures { result ≡ fault_status self }
     {
@@ -52,7 +52,7 @@ impl HeadFault {
         }
     }
 
-    /// The reply to the refusal: the status, and no body.
+    /// The reply to the refusal of a head: its status, and no body.
     pub fn reply(self) -> Reply
         ensures value { result ≡ fault_reply self }
         ensures fixed { (close : Bool) → IsFixed result close }

@@ -1,4 +1,4 @@
-//! Whether a field line begins that is one too many.
+//! The limit of field lines: whether a head that isn't whole begins one field line too many.
 ghost use Rattle.std.specs.Prelude.{◌≡◌, ◌≤◌, ◌<◌, ◌+◌, ◌-◌, ◌==◌, ◌++◌, ◌∷◌, [], not, true, false, length, take, drop, slice_index};
 ghost use Rattle.httparse.specs.Ascii.{line_feed};
 ghost use Rattle.httparse.specs.Grammar.{AllPass};
@@ -9,8 +9,8 @@ use crate::first::{FIELD_LIMIT, HEAD_LIMIT};
 use httparse::Status;
 use httparse::spans::{EMPTY_HEADER_SPAN, parse_request};
 
-/// Whether as many field lines as a head may have come first, and then a line begins that isn't finished and isn't
-/// the empty one.
+/// Whether an unfinished head begins a field line beyond the limit. As many field lines as a head may have
+/// come first, and then a line begins that isn't finished and isn't the empty one.
 pub(crate) fn begins_one_more(bytes: &[u8]) -> bool
     requires { length bytes.now ≤ head_limit }
     ensures yes { result ≡ true → BeginsOneMore bytes.now }
@@ -23,7 +23,7 @@ pub(crate) fn begins_one_more(bytes: &[u8]) -> bool
     is_full_with_feed(&bytes[..at])
 }
 
-/// The place after the last line feed; 0 if there is none.
+/// The place after the last line feed of an unfinished head; 0 if there is none.
 fn after_last_feed(bytes: &[u8]) -> usize
     ensures within { result ≤ length bytes.now }
     ensures feed { 0 < result → slice_index bytes.now (result - 1) ≡ line_feed }
@@ -36,7 +36,7 @@ fn after_last_feed(bytes: &[u8]) -> usize
     at
 }
 
-/// Whether these bytes and then an empty line are a head with as many field lines as it may have.
+/// Whether these bytes of a head and then an empty line have as many field lines as a head may have.
 fn is_full_with_feed(bytes: &[u8]) -> bool
     requires { length bytes.now ≤ head_limit }
     ensures yes { result ≡ true → IsFullHead (bytes.now ++ line_feed ∷ []) }
@@ -47,7 +47,7 @@ fn is_full_with_feed(bytes: &[u8]) -> bool
     is_full(&text[..bytes.len() + 1])
 }
 
-/// Copies the bytes to the front of a text, and puts a line feed after them.
+/// Copies the bytes of a head to the front of a text, and puts a line feed after them.
 fn copy_with_feed(bytes: &[u8], text: &mut [u8])
     requires { length bytes.now < length text.old }
     ensures copied { take (length bytes.now + 1) text.new ≡ bytes.now ++ line_feed ∷ [] }
@@ -57,7 +57,7 @@ fn copy_with_feed(bytes: &[u8], text: &mut [u8])
     text[bytes.len()] = b'\n';
 }
 
-/// Whether the bytes are a head with as many field lines as it may have.
+/// Whether the bytes are a whole head with as many field lines as it may have.
 fn is_full(bytes: &[u8]) -> bool
     ensures yes { result ≡ true → IsFullHead bytes.now }
     ensures no { result ≡ false → ¬ IsFullHead bytes.now }

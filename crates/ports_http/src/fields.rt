@@ -1,4 +1,4 @@
-//! The fields of a head, found by name.
+//! The fields of a request's head, found by name: the key, Connection, and the number in a Content-Length.
 ghost use Rattle.std.specs.Prelude.{◌≡◌, length, codes, All, IfSome, Option, Some, None, option_map, if◌then◌else◌, ◌==◌};
 ghost use Rattle.std.specs.List.{list_all, list_any, slice_split};
 ghost use Rattle.std.specs.Char.{is_ascii_digit};
@@ -11,7 +11,7 @@ ghost use Rattle.ports_http.specs.Spans.{OccursAs, with_one, named};
 use httparse::spans::{HeaderSpan, Span};
 use std::str;
 
-/// How often a field occurs, and the value of one that occurs once.
+/// How often a field occurs in a head, and the value of one that occurs once.
 #[derive(Clone, Copy)]
 pub(crate) enum Occurs {
     Never,
@@ -20,7 +20,7 @@ pub(crate) enum Occurs {
 }
 
 impl Occurs {
-    /// How often the field occurs with one more that has this value.
+    /// How often a field occurs in a head with one more that has this value.
     fn with(self, value: Span) -> Occurs
         ensures { result ≡ with_one self value }
     {
@@ -31,7 +31,7 @@ impl Occurs {
     }
 }
 
-/// How often the field of this name occurs.
+/// How often the field of this name occurs among the fields of a head.
 pub(crate) fn find(buf: &[u8], fields: &[HeaderSpan], name: &str) -> Occurs
     requires { All (IsHeaderWithin (length buf.now)) fields.now }
     ensures { OccursAs buf.now result (field_values name.now (named buf.now fields.now)) }
@@ -45,6 +45,7 @@ pub(crate) fn find(buf: &[u8], fields: &[HeaderSpan], name: &str) -> Occurs
     found
 }
 
+/// Whether a field of a head has this name, in letters of either case.
 fn is_named(buf: &[u8], field: HeaderSpan, name: &str) -> bool
     requires { IsHeaderWithin (length buf.now) field }
     ensures { result ≡ is_named name.now (header_bytes buf.now field) }
@@ -52,7 +53,7 @@ fn is_named(buf: &[u8], field: HeaderSpan, name: &str) -> bool
     field.name.of(buf).eq_ignore_ascii_case(name.as_bytes())
 }
 
-/// The value of `X-Ports-Key`, if there is exactly one.
+/// The value of the field `X-Ports-Key` in a head, if there is exactly one.
 pub(crate) fn key_of(buf: &[u8], fields: &[HeaderSpan]) -> Option<Span>
     requires { All (IsHeaderWithin (length buf.now)) fields.now }
     ensures value { option_map (span_bytes buf.now) result ≡ request_key (named buf.now fields.now) }
@@ -64,7 +65,7 @@ pub(crate) fn key_of(buf: &[u8], fields: &[HeaderSpan]) -> Option<Span>
     }
 }
 
-/// Whether the connection ends after a request of this minor version with these fields.
+/// Whether the connection ends after a request of this minor version of HTTP with these fields.
 pub(crate) fn closes(minor: u8, buf: &[u8], fields: &[HeaderSpan]) -> bool
     requires { All (IsHeaderWithin (length buf.now)) fields.now }
     ensures { result ≡ ends_connection minor (named buf.now fields.now) }
@@ -80,6 +81,7 @@ pub(crate) fn closes(minor: u8, buf: &[u8], fields: &[HeaderSpan]) -> bool
     false
 }
 
+/// Whether a field of a head is a Connection that says `close`.
 fn is_closing(buf: &[u8], field: HeaderSpan) -> bool
     requires { IsHeaderWithin (length buf.now) field }
     ensures { result ≡ is_closing (header_bytes buf.now field) }
@@ -87,6 +89,7 @@ fn is_closing(buf: &[u8], field: HeaderSpan) -> bool
     is_named(buf, field, "connection") && says_close(field.value.of(buf))
 }
 
+/// Whether one of the options in the value of a Connection field is `close`.
 fn says_close(value: &[u8]) -> bool
     ensures { result ≡ list_any is_close_option (slice_split (λ b. b == 44) value.now) }
 {
@@ -95,13 +98,14 @@ fn says_close(value: &[u8]) -> bool
         .any(|word| is_close_option(word))
 }
 
+/// Whether an option of a Connection field is `close`, in letters of either case.
 fn is_close_option(word: &[u8]) -> bool
     ensures { result ≡ is_close_option word.now }
 {
     trim_ows(word).eq_ignore_ascii_case(b"close")
 }
 
-/// The bytes without the blanks and tabs at both ends.
+/// The bytes of a field's value without the blanks and tabs at both ends.
 fn trim_ows(bytes: &[u8]) -> &[u8]
     ensures { result.now ≡ trim_ows bytes.now }
 {
@@ -116,13 +120,14 @@ fn trim_ows(bytes: &[u8]) -> &[u8]
     &bytes[start..end]
 }
 
+/// Whether a byte of a field's value is a blank or a tab.
 fn is_ows(byte: u8) -> bool
     ensures { result ≡ is_ows byte }
 {
     byte == b' ' || byte == b'\t'
 }
 
-/// The number that a Content-Length writes in 1 to 18 digits. `None` for any other value.
+/// The number that the value of a Content-Length field writes in 1 to 18 digits. `None` for any other value.
 pub(crate) fn length_of(value: &[u8]) -> Option<u64>
     ensures { result ≡ (if is_length value.now then Some (digits_value 10 value.now) else None) }
 {
@@ -135,12 +140,14 @@ pub(crate) fn length_of(value: &[u8]) -> Option<u64>
     digits.parse().ok()
 }
 
+/// Whether the value of a Content-Length field is 1 to 18 digits.
 fn is_length(value: &[u8]) -> bool
     ensures { result ≡ is_length value.now }
 {
     !value.is_empty() && value.len() <= 18 && all_digits(value)
 }
 
+/// Whether each byte of a field's value is a digit.
 fn all_digits(value: &[u8]) -> bool
     ensures { result ≡ list_all is_ascii_digit value.now }
 {

@@ -1,4 +1,4 @@
-//! What comes first in the unread bytes.
+//! What comes first in a connection's unread bytes: a whole request, a head refusal, or too little of either.
 ghost use Rattle.std.specs.Prelude.{◌≡◌, ◌≤◌, ◌<◌, length, take, drop};
 ghost use Rattle.httparse.specs.Grammar.{RequestHead};
 ghost use Rattle.ports_http.specs.Limits.{head_limit};
@@ -13,13 +13,13 @@ use crate::method::Method;
 use httparse::spans::{EMPTY_HEADER_SPAN, HeaderSpan, RequestSpans, Span, parse_request};
 use httparse::{Error, Status};
 
-/// The most bytes of a head.
+/// The most bytes of a request's head.
 pub(crate) const HEAD_LIMIT: usize = 8_192;
 
 /// The most field lines of a head.
 pub(crate) const FIELD_LIMIT: usize = 32;
 
-/// What comes first.
+/// What comes first in the unread bytes.
 pub(crate) enum First {
     /// No whole request yet: so many bytes of a body are missing, or some of a head (0).
     Waiting(usize),
@@ -37,7 +37,7 @@ pub(crate) struct Whole {
     pub(crate) close: bool,
 }
 
-/// What comes first in the unread bytes.
+/// What comes first in the unread bytes: a whole request, a head refusal, or nothing whole yet.
 pub(crate) fn read_first(unread: &[u8]) -> First
     ensures { ComesFirst unread.now result }
 {
@@ -52,8 +52,8 @@ pub(crate) fn read_first(unread: &[u8]) -> First
     }
 }
 
-/// What comes first, if no whole head does. A head isn't waited for that has too many bytes, or begins a field line
-/// too many.
+/// What comes first in unread bytes that don't begin with a whole head. A head isn't waited for that has too
+/// many bytes, or begins a field line too many.
 fn before_head(unread: &[u8]) -> First
     requires { IsUnfinished (take head_limit unread.now) }
     ensures { ComesFirst unread.now result }
@@ -64,7 +64,7 @@ fn before_head(unread: &[u8]) -> First
     First::Waiting(0)
 }
 
-/// The first bytes, as many as a head may take.
+/// The first unread bytes, as many as a head may take.
 fn front(unread: &[u8]) -> &[u8]
     ensures { result.now ≡ take head_limit unread.now }
 {
@@ -75,7 +75,7 @@ fn front(unread: &[u8]) -> &[u8]
     }
 }
 
-/// What comes first, if a whole head does.
+/// What comes first in unread bytes that begin with this whole head.
 fn after_head(unread: &[u8], spans: &RequestSpans, fields: &[HeaderSpan]) -> First
     requires { (head : RequestHead) × CoversHead unread.now spans.now fields.now head }
     ensures { ComesFirst unread.now result }

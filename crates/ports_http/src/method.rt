@@ -1,10 +1,10 @@
-//! The methods that are served.
+//! The methods of HTTP that are served.
 ghost use Rattle.std.specs.Prelude.{◌≡◌, Result, Ok, Err};
 ghost use Rattle.ports_http.specs.Heads.{method_text, method_named};
 
 use crate::fault::HeadFault;
 
-/// A method (RFC 9110, section 9). No other is served.
+/// A method of HTTP (RFC 9110, section 9). No other is served.
 #[derive(Clone, Copy, Debug, PartialEq, Eq)]
 pub enum Method {
     Get,
@@ -13,7 +13,7 @@ pub enum Method {
 }
 
 impl Method {
-    /// The method's word, as it is written in a head.
+    /// The word of the HTTP method, as it is written in a head.
     pub fn as_str(self) -> &'static str
         ensures { result.now ≡ method_text self }
     {
@@ -25,7 +25,7 @@ impl Method {
     }
 }
 
-/// The method of this word, in capitals. Any other word is `HeadFault::UnknownMethod`.
+/// The HTTP method of this word, in capitals. Any other word is `HeadFault::UnknownMethod`.
 #[tactic(auto, unfolding(crate::specs::Heads::method_named))]
 pub(crate) fn method_of(word: &[u8]) -> Result<Method, HeadFault>
     ensures { result ≡ method_named word.now }

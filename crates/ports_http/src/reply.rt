@@ -1,4 +1,4 @@
-//! Replies.
+//! Replies of HTTP: a status, a body with its media type, and an Allow field.
 ghost use Rattle.std.specs.Prelude.{◌≡◌, [], Bool, Option, Some, None};
 ghost use Rattle.ports_http.specs.Messages.{ReplyMessage};
 ghost use Rattle.ports_http.specs.Replies.{content_text, unknown_key, store_failed, IsFixed, plain_reply};
@@ -7,7 +7,7 @@ use crate::method::Method;
 use http::StatusCode;
 use std::marker::Model;
 
-/// The media type of a body.
+/// The media type of a reply's body.
 #[derive(Clone, Copy, Debug, PartialEq, Eq)]
 pub enum Content {
     /// `application/json`
@@ -17,7 +17,7 @@ pub enum Content {
 }
 
 impl Content {
-    /// The media type's name.
+    /// The name of the media type of a reply's body.
     pub fn as_str(self) -> &'static str
         ensures { result.now ≡ content_text self }
     {
@@ -56,7 +56,7 @@ impl Model for Reply {
 }
 
 impl Reply {
-    /// A reply whose body is a text of the program's own, which takes no memory.
+    /// A reply of this status whose body is a text of the program's own, which takes no memory.
     pub fn of_text(status: StatusCode, content: Option<Content>, text: &'static str) -> Reply
         ensures { result ≡ plain_reply status content text.now }
     {
@@ -68,7 +68,7 @@ impl Reply {
         }
     }
 
-    /// A reply with these bytes as its body.
+    /// A reply of this status with these bytes as its body.
     pub fn of_bytes(status: StatusCode, content: Option<Content>, body: Vec<u8>) -> Reply
         ensures { result ≡ plain_reply status content body.items }
     {
@@ -80,7 +80,7 @@ impl Reply {
         }
     }
 
-    /// The same reply with an Allow field of these methods.
+    /// The reply with an Allow field of these methods.
     pub fn with_allow(self, allow: &'static [Method]) -> Reply
         ensures { result ≡ record self { allow = allow.now } }
     {
@@ -122,7 +122,7 @@ impl Reply {
         )
     }
 
-    /// The bytes of the body.
+    /// The bytes of the reply's body.
     pub fn body(&self) -> &[u8]
         ensures { result.now ≡ self.now.body }
     {

@@ -1,4 +1,4 @@
-//! Requests.
+//! Requests of HTTP, as they are cut from a connection's bytes.
 ghost use Rattle.std.specs.Prelude.{◌≡◌};
 ghost use Rattle.refusals.specs.Refused.{refused};
 ghost use Rattle.ports_http.specs.declared.request.TakeError.TheVariants.{Memory};
@@ -10,7 +10,7 @@ use std::error::Error;
 use std::fmt;
 use std::marker::Model;
 
-/// A request. A contract sees it as a `RequestMessage`.
+/// A request of HTTP. A contract sees it as a `RequestMessage`.
 #[derive(Drop)]
 pub struct Request {
     pub method: Method,
@@ -42,7 +42,7 @@ pub enum TakeError {
 }
 
 impl TakeError {
-    /// A request with this `close` is lost, since there was no memory for it.
+    /// The error that a request with this `close` is lost, since there was no memory for it.
     pub(crate) fn lost(close: bool, error: AllocError) -> TakeError
         ensures { result ≡ Memory close refused }
     {
@@ -58,6 +58,7 @@ impl fmt::Display for TakeError {
 
     ghost output = { λ _. Some (codes "out of memory") };
 
+    /// Writes that a request is lost since memory ran out.
     fn fmt<W: fmt::Write>(&self, f: &mut fmt::Formatter<W>) -> fmt::Result {
         match self {
             TakeError::Memory { .. } => write!(f, "out of memory"),

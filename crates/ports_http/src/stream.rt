@@ -1,4 +1,4 @@
-//! A whole stream, decoded piece by piece.
+//! A whole stream of bytes, decoded into requests piece by piece.
 ghost use Rattle.std.specs.Prelude.{◌≡◌, OnOk};
 ghost use Rattle.ports_http.specs.DecodedStream.{end_after, WaitsOrIsOver, DecodesWhole};
 ghost use Rattle.ports_http.specs.DecodedStream.{DecodesPiece, DecodesAll, AddsFound};
@@ -43,7 +43,7 @@ pub fn decode(alloc: Global, pieces: &[Vec<u8>]) -> Result<Decoded, AllocError>
     Ok(decoded)
 }
 
-/// Feeds a piece, as far as there is room at a time, and takes what is whole.
+/// Feeds a piece of the stream, as far as there is room at a time, and takes the requests that are whole.
 fn decode_piece(
     alloc: Global,
     piece: &[u8],
@@ -64,7 +64,7 @@ fn decode_piece(
     Ok(())
 }
 
-/// Takes all that is whole.
+/// Takes all requests of the stream that are whole.
 fn take_all(alloc: Global, conn: &mut Conn, decoded: &mut Decoded) -> Result<(), AllocError>
     ensures settled { OnOk result (WaitsOrIsOver conn.new) }
     ensures decoded { DecodesAll result conn.old conn.new decoded.old decoded.new }
@@ -80,7 +80,7 @@ fn take_all(alloc: Global, conn: &mut Conn, decoded: &mut Decoded) -> Result<(),
     }
 }
 
-/// Notes a request, or the refusal that ends the stream.
+/// Notes a request of the decoded stream, or the head refusal that ends the stream.
 fn note(found: Result<Request, HeadFault>, decoded: &mut Decoded) -> Result<(), AllocError>
     ensures requests { AddsFound result decoded.old decoded.new found }
     ensures end { OnOk result (decoded.new.end ≡ end_after found) }

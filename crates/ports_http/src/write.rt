@@ -1,4 +1,4 @@
-//! The bytes of replies.
+//! How replies are written: their bytes, line by line (RFC 9112).
 ghost use Rattle.std.specs.Prelude.{◌≡◌, ◌+◌, ◌≤◌, ◌<◌, [], ◌++◌, length, codes, decimal, IfOk, OnOk, OnErr, vec_len, vec_capacity};
 ghost use Rattle.std.specs.List.{flat_map};
 ghost use Rattle.ports_http.specs.Limits.{fixed_limit};
@@ -12,8 +12,8 @@ use http::StatusCode;
 use itoa::Buffer;
 use std::alloc::{AllocError, Global};
 
-/// The bytes of a reply. If the connection closes after it, the reply says `Connection: close`. It
-/// fails only if memory runs out.
+/// The bytes of a reply as they are written to a connection. If the connection closes after it, the reply
+/// says `Connection: close`. It fails only if memory runs out.
 pub fn write_reply(alloc: Global, reply: &Reply, close: bool) -> Result<Vec<u8>, AllocError>
     ensures { IfOk result (λ bytes. bytes.items ≡ reply_text reply.now close) }
 {
@@ -22,7 +22,7 @@ pub fn write_reply(alloc: Global, reply: &Reply, close: bool) -> Result<Vec<u8>,
     Ok(out)
 }
 
-/// The same bytes, put into an empty `Vec` that has room for a fixed reply. It takes no memory.
+/// Writes the bytes of a reply into an empty `Vec` that has room for a fixed reply. It takes no memory.
 pub fn write_fixed(reply: &Reply, close: bool, out: &mut Vec<u8>)
     requires fixed { IsFixed reply.now close }
     requires empty { out.old.items ≡ [] }
@@ -33,7 +33,7 @@ pub fn write_fixed(reply: &Reply, close: bool, out: &mut Vec<u8>)
     put_reply(reply, close, out).unwrap();
 }
 
-/// Adds the bytes of a reply. It fails only if the room was too small.
+/// Writes the bytes of a reply after others. It fails only if the room was too small.
 #[tactic(auto, unfolding(crate::specs::Replies::reply_text))]
 fn put_reply(reply: &Reply, close: bool, out: &mut Vec<u8>) -> Result<(), AllocError>
     ensures { AppendsIfRoom out.old (reply_text reply.now close) result out.new }
@@ -44,7 +44,7 @@ fn put_reply(reply: &Reply, close: bool, out: &mut Vec<u8>) -> Result<(), AllocE
     Ok(())
 }
 
-/// Adds all but the body, which has this many bytes.
+/// Writes the head of a reply: all but the body, which has this many bytes.
 fn put_head(reply: &Reply, close: bool, size: usize, out: &mut Vec<u8>) -> Result<(), AllocError>
     ensures { AppendsIfRoom out.old (reply_head reply.now close size) result out.new }
 {
@@ -56,7 +56,7 @@ fn put_head(reply: &Reply, close: bool, size: usize, out: &mut Vec<u8>) -> Resul
     put_line("", "", out)
 }
 
-/// Adds the status line.
+/// Writes the status line of a reply.
 #[tactic(auto, unfolding(crate::specs::Replies::status_text))]
 fn put_status(status: StatusCode, out: &mut Vec<u8>) -> Result<(), AllocError>
     ensures { AppendsIfRoom out.old (line (codes "HTTP/1.1 " ++ status_text status)) result out.new }
@@ -67,7 +67,7 @@ fn put_status(status: StatusCode, out: &mut Vec<u8>) -> Result<(), AllocError>
     put_line(status.canonical_reason().unwrap_or(""), "", out)
 }
 
-/// Adds the Content-Type line, if there is a type.
+/// Writes the Content-Type line of a reply, if its body has a media type.
 fn put_content(content: Option<Content>, out: &mut Vec<u8>) -> Result<(), AllocError>
     ensures { AppendsIfRoom out.old (content_line content) result out.new }
 {
@@ -77,7 +77,7 @@ fn put_content(content: Option<Content>, out: &mut Vec<u8>) -> Result<(), AllocE
     }
 }
 
-/// Adds the Connection line, if the connection closes.
+/// Writes the Connection line of a reply, if the connection closes.
 fn put_close(close: bool, out: &mut Vec<u8>) -> Result<(), AllocError>
     ensures { AppendsIfRoom out.old (close_line close) result out.new }
 {
@@ -88,7 +88,7 @@ fn put_close(close: bool, out: &mut Vec<u8>) -> Result<(), AllocError>
     }
 }
 
-/// Adds the Allow line, if there are methods.
+/// Writes the Allow line of a reply, if it has methods.
 fn put_allow(allow: &[Method], out: &mut Vec<u8>) -> Result<(), AllocError>
     ensures { AppendsIfRoom out.old (allow_line allow.now) result out.new }
 {
@@ -103,7 +103,7 @@ fn put_allow(allow: &[Method], out: &mut Vec<u8>) -> Result<(), AllocError>
     }
 }
 
-/// Adds each method after a comma and a blank.
+/// Writes each method in a reply's Allow line after a comma and a blank.
 fn put_methods(methods: &[Method], out: &mut Vec<u8>) -> Result<(), AllocError>
     ensures { AppendsIfRoom out.old (flat_map next_method methods.now) result out.new }
 {
@@ -113,7 +113,7 @@ fn put_methods(methods: &[Method], out: &mut Vec<u8>) -> Result<(), AllocError>
     Ok(())
 }
 
-/// Adds a method after a comma and a blank.
+/// Writes a method in a reply's Allow line after a comma and a blank.
 fn put_method(method: Method, out: &mut Vec<u8>) -> Result<(), AllocError>
     ensures { AppendsIfRoom out.old (next_method method) result out.new }
 {
@@ -121,7 +121,7 @@ fn put_method(method: Method, out: &mut Vec<u8>) -> Result<(), AllocError>
     put_text(method.as_str(), out)
 }
 
-/// Adds a line of these two parts.
+/// Writes a field line of a reply: a name and a value.
 fn put_line(name: &str, value: &str, out: &mut Vec<u8>) -> Result<(), AllocError>
     ensures { AppendsIfRoom out.old (line (name.now ++ value.now)) result out.new }
 {
@@ -130,7 +130,7 @@ fn put_line(name: &str, value: &str, out: &mut Vec<u8>) -> Result<(), AllocError
     put_text("\r\n", out)
 }
 
-/// Adds a text.
+/// Writes a text into the bytes of a reply.
 fn put_text(text: &str, out: &mut Vec<u8>) -> Result<(), AllocError>
     ensures { AppendsIfRoom out.old text.now result out.new }
 {

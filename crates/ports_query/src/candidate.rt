@@ -1,4 +1,4 @@
-//! When a package meets conditions.
+//! A candidate of a query: a package that is looked at, and whether it meets conditions.
 ghost use Rattle.std.specs.Prelude.{◌≡◌, map, string_bytes};
 ghost use Rattle.std.specs.List.{list_any};
 ghost use Rattle.std.specs.Str.{bytes_eq};
@@ -13,7 +13,7 @@ use pkg_name::Version;
 use port_rules::{Package, PortRecord};
 use std::alloc::{AllocError, Global};
 
-/// A package that is looked at, with its port and the port's canonical path.
+/// A candidate of a query: a package that is looked at, with its port and the port's canonical path.
 #[derive(Clone, Copy)]
 pub(crate) struct Candidate<'a> {
     pub(crate) path: &'a str,
@@ -21,7 +21,7 @@ pub(crate) struct Candidate<'a> {
     pub(crate) found: &'a Package,
 }
 
-/// Whether a package meets all conditions.
+/// Whether a candidate, a package, meets all conditions of a query.
 pub(crate) fn meets_all(
     alloc: Global,
     conditions: &[Condition],
@@ -37,7 +37,7 @@ pub(crate) fn meets_all(
     Ok(true)
 }
 
-/// Whether a package meets a condition.
+/// Whether a candidate, a package, meets a condition of a query.
 fn meets(alloc: Global, condition: &Condition, candidate: Candidate<'_>) -> Result<bool, AllocError>
     ensures { TellsIf result (candidate_meets candidate.entry (condition_seen condition.now)) }
 {
@@ -59,7 +59,8 @@ fn meets(alloc: Global, condition: &Condition, candidate: Candidate<'_>) -> Resu
     }
 }
 
-/// A text of a package or of its port. The package's full name is made, and each other text is lent.
+/// A text of a candidate, of the package or of its port. The package's full name is made, and each other text
+/// is lent.
 #[derive(Drop)]
 enum FieldText<'a> {
     Lent(&'a str),
@@ -67,7 +68,7 @@ enum FieldText<'a> {
 }
 
 impl FieldText<'_> {
-    /// Its text.
+    /// The text of the candidate's field.
     fn as_str(&self) -> &str
         ensures { result.now ≡ meets.text_seen self.now }
     {
@@ -78,7 +79,7 @@ impl FieldText<'_> {
     }
 }
 
-/// A text of a package or of its port.
+/// The text of a candidate's field, of the package or of its port.
 fn text_of<'a>(
     alloc: Global,
     field: TextField,
@@ -98,7 +99,7 @@ fn text_of<'a>(
     Ok(FieldText::Lent(lent))
 }
 
-/// Texts of a port.
+/// The texts of a candidate's field: the categories of the port, or its chosen flavors.
 fn texts_of(field: ListField, port: &PortRecord) -> &[String]
     ensures { map string_bytes result.now ≡ meets.texts_of_field field port.now }
 {
@@ -108,7 +109,7 @@ fn texts_of(field: ListField, port: &PortRecord) -> &[String]
     }
 }
 
-/// Whether a text meets a sign and a value.
+/// Whether the text of a candidate's field meets the sign and the value of a condition.
 fn text_meets(sign: OperatorSign, value: &str, text: &str) -> bool
     ensures { result ≡ meets.text_meets sign value.now text.now }
 {
@@ -119,7 +120,7 @@ fn text_meets(sign: OperatorSign, value: &str, text: &str) -> bool
     }
 }
 
-/// Whether texts meet a sign and a value.
+/// Whether the texts of a candidate's field meet the sign and the value of a condition.
 fn texts_meet(sign: OperatorSign, value: &str, texts: &[String]) -> bool
     ensures { result ≡ meets.texts_meet sign value.now (map string_bytes texts.now) }
 {
@@ -130,28 +131,28 @@ fn texts_meet(sign: OperatorSign, value: &str, texts: &[String]) -> bool
     }
 }
 
-/// Whether some text is the value.
+/// Whether some text of a candidate's field is the value of a condition.
 fn some_is(texts: &[String], value: &str) -> bool
     ensures { result ≡ list_any (λ text. bytes_eq (string_bytes text) value.now) texts.now }
 {
     texts.iter().any(|text| text.as_str() == value)
 }
 
-/// Whether the value is a part of some text.
+/// Whether the value of a condition is a part of some text of a candidate's field.
 fn some_has_part(texts: &[String], value: &str) -> bool
     ensures { result ≡ list_any (λ text. meets.has_part value.now (string_bytes text)) texts.now }
 {
     texts.iter().any(|text| has_part(text.as_str(), value))
 }
 
-/// Whether a part is somewhere in a text.
+/// Whether the value of a condition is somewhere in a text of a candidate.
 fn has_part(text: &str, part: &str) -> bool
     ensures { result ≡ meets.has_part part.now text.now }
 {
     text.contains(part)
 }
 
-/// Whether a version meets a bound that another version sets.
+/// Whether the version of a candidate meets the bound that the version in a condition sets.
 fn bound_meets(bound: Bound, version: &Version, other: &Version) -> bool
     ensures { result ≡ meets.bound_meets bound (version_cmp version.now other.now) }
 {

@@ -1,4 +1,4 @@
-//! The conditions of a query.
+//! The conditions of a query, each on a field of a package or of its port.
 ghost use Rattle.std.specs.Prelude.{◌≡◌};
 ghost use Rattle.pkg_name.specs.Version.{is_version};
 ghost use Rattle.text_parts.specs.Cuts.{now_all};
@@ -10,7 +10,7 @@ use crate::operators::{Bound, Operator, OperatorSign, operator_at, plain_length}
 use pkg_name::{Version, VersionFault};
 use std::alloc::{AllocError, Global};
 
-/// A text of a package or of its port.
+/// A field of a condition that is one text, of a package or of its port.
 #[derive(Clone, Copy, Debug)]
 pub(crate) enum TextField {
     /// The canonical path of the port.
@@ -27,7 +27,7 @@ pub(crate) enum TextField {
     Comment,
 }
 
-/// Texts of a port.
+/// A field of a condition that is several texts of a port.
 #[derive(Clone, Copy, Debug)]
 pub(crate) enum ListField {
     /// Its categories.
@@ -36,7 +36,7 @@ pub(crate) enum ListField {
     Flavor,
 }
 
-/// What a condition is on.
+/// The field that a condition is on.
 #[derive(Clone, Copy, Debug)]
 pub(crate) enum Field {
     /// One text.
@@ -57,7 +57,7 @@ pub(crate) enum Condition {
 }
 
 impl Condition {
-    /// The condition that a text is, if it is one.
+    /// The condition of a query that a text is, if it is one.
     #[tactic(auto, unfolding(crate::specs::Conditions::condition_of))]
     pub(crate) fn read(alloc: Global, text: &str) -> Result<Option<Condition>, AllocError>
         ensures { ReadsCondition result (condition_of text.now) }
@@ -69,7 +69,7 @@ impl Condition {
         }
     }
 
-    /// The condition of a field's name, an operator and a value, if there is one.
+    /// The condition of a query that a field's name, an operator and a value make, if they make one.
     fn of(
         alloc: Global,
         name: &str,
@@ -84,7 +84,8 @@ impl Condition {
         }
     }
 
-    /// The condition that compares a field with a value by this sign. `None` if no field has this name.
+    /// The condition that compares a field of a package or its port with a value by this sign. `None` if no
+    /// field has this name.
     fn plain(
         alloc: Global,
         name: &str,
@@ -103,8 +104,8 @@ impl Condition {
         }
     }
 
-    /// The condition that compares the version with a value by this bound. `None` if the name isn't
-    /// `version`, or the value is no version.
+    /// The condition that compares the version of a package with a value by this bound. `None` if the name
+    /// isn't `version`, or the value is no version.
     fn ordered(
         alloc: Global,
         name: &str,
@@ -124,7 +125,7 @@ impl Condition {
     }
 }
 
-/// The conditions that texts are, if each of them is one.
+/// The conditions of a query that texts are, if each of them is one.
 pub(crate) fn read_conditions(
     alloc: Global,
     texts: &[&str],
@@ -141,7 +142,7 @@ pub(crate) fn read_conditions(
     Ok(Some(conditions))
 }
 
-/// The field of this name, if there is one.
+/// The field of conditions that has this name, if there is one.
 fn field_named(name: &str) -> Option<Field>
     ensures { result ≡ field_named name.now }
 {

@@ -1,10 +1,10 @@
-//! The kinds of dependencies that are asked for.
+//! The kinds of dependencies about which a question asks.
 ghost use Rattle.std.specs.Prelude.{◌≡◌};
 ghost use Rattle.ports_query.specs.Kinds as kinds;
 
 use port_rules::DependKind;
 
-/// Which dependencies are asked for.
+/// The kinds of dependencies about which a question asks.
 #[derive(Clone, Copy, Debug, PartialEq, Eq)]
 pub enum Kinds {
     /// Those of each kind.
@@ -14,8 +14,8 @@ pub enum Kinds {
 }
 
 impl Kinds {
-    /// The kinds that a word names: `build`, `lib`, `run` and `test` name one, `all` and the empty word
-    /// name each. `None` for any other word.
+    /// The kinds of dependencies that a word names: `build`, `lib`, `run` and `test` name one, `all` and the
+    /// empty word name each. `None` for any other word.
     pub fn read(word: &str) -> Option<Kinds>
         ensures { result ≡ kinds.kinds_of word.now }
     {
@@ -29,7 +29,7 @@ impl Kinds {
         }
     }
 
-    /// Whether a kind is one of them.
+    /// Whether a kind of dependencies is one of those that are asked for.
     pub(crate) fn have(self, kind: DependKind) -> bool
         ensures { result ≡ kinds.has_kind self kind }
     {
@@ -40,7 +40,7 @@ impl Kinds {
     }
 }
 
-/// Whether these are the same kind.
+/// Whether two kinds of dependencies are the same.
 fn same_kind(wanted: DependKind, kind: DependKind) -> bool
     ensures { result ≡ kinds.same_kind wanted kind }
 {

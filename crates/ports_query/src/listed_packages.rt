@@ -1,4 +1,4 @@
-//! Packages that are listed.
+//! Listed packages: the packages of the roots that meet a query or that a spec admits.
 ghost use Rattle.std.specs.Prelude.{◌≡◌};
 ghost use Rattle.pkg_name.specs.Name.{name_text};
 ghost use Rattle.ports_query.specs.ListedPackages as listed;
@@ -30,22 +30,22 @@ impl<'a> Model for Listed<'a> {
 }
 
 impl<'a> Listed<'a> {
-    /// The package's full name.
+    /// The full name of the listed package.
     pub fn name(&self) -> &'a PkgName
         ensures { name_text result.now ≡ self.now.name }
     {
         self.found.name()
     }
 
-    /// The canonical path of its port.
+    /// The canonical path of the listed package's port.
     pub fn path(&self) -> &'a str
         ensures { result.now ≡ self.now.path }
     {
         self.path
     }
 
-    /// Which package of the port it is, with its dash; `-` for the one package of a port without
-    /// MULTI_PACKAGES.
+    /// Which package of its port the listed package is, with its dash; `-` for the one package of a port
+    /// without MULTI_PACKAGES.
     pub fn subpackage(&self) -> &'a str
         ensures { result.now ≡ self.now.subpackage }
     {
@@ -53,16 +53,16 @@ impl<'a> Listed<'a> {
     }
 }
 
-/// The test that packages are put to.
+/// The test that packages must pass to be listed: the conditions of a query, or a spec.
 #[derive(Clone, Copy)]
 enum Test<'a> {
     Meets(&'a Query),
     Admitted(&'a Spec),
 }
 
-/// The packages of these roots that meet all conditions of a query. They come root by root in the
-/// order of the roots, those of a root in the order of the port. A root with a fault has none. It fails
-/// only if memory runs out.
+/// The listed packages of a query: those of these roots that meet all its conditions. They come root by root
+/// in the order of the roots, those of a root in the order of the port. A root with a fault has none. It
+/// fails only if memory runs out.
 pub fn answer<'a>(
     alloc: Global,
     query: &Query,
@@ -73,8 +73,9 @@ pub fn answer<'a>(
     list(alloc, Test::Meets(query), roots)
 }
 
-/// The packages of these roots that a spec admits (packages-specs(7)), in the same order. A root with a
-/// fault has none. It fails only if memory runs out.
+/// The listed packages of a spec: those of these roots that the spec admits (packages-specs(7)). They come
+/// root by root in the order of the roots, those of a root in the order of the port. A root with a fault has
+/// none. It fails only if memory runs out.
 pub fn admitted<'a>(
     alloc: Global,
     spec: &Spec,
@@ -85,7 +86,7 @@ pub fn admitted<'a>(
     list(alloc, Test::Admitted(spec), roots)
 }
 
-/// Whether a spec admits a package of a port.
+/// Whether a spec admits at least one package of a port.
 pub fn admits_one(spec: &Spec, port: &PortRecord) -> bool
     ensures { result ≡ listed.admits_one spec.now port.now }
 {
@@ -94,7 +95,7 @@ pub fn admits_one(spec: &Spec, port: &PortRecord) -> bool
         .any(|found| spec.matches(found.name()))
 }
 
-/// The packages of these roots that pass a test.
+/// The listed packages of a test: those of these roots that pass it.
 fn list<'a>(
     alloc: Global,
     test: Test<'_>,
@@ -109,7 +110,7 @@ fn list<'a>(
     Ok(listed)
 }
 
-/// Adds the packages of a root that pass a test.
+/// Adds the packages of a root that pass a test to those that are listed.
 fn list_root<'a>(
     alloc: Global,
     test: Test<'_>,
@@ -124,7 +125,7 @@ fn list_root<'a>(
     }
 }
 
-/// Adds the packages of a port that pass a test.
+/// Adds the packages of a port that pass a test to those that are listed.
 fn list_port<'a>(
     alloc: Global,
     test: Test<'_>,
@@ -140,7 +141,7 @@ fn list_port<'a>(
     Ok(())
 }
 
-/// Adds a package, if it passes a test.
+/// Adds a package to those that are listed, if it passes a test.
 fn list_package<'a>(
     alloc: Global,
     test: Test<'_>,
@@ -158,7 +159,7 @@ fn list_package<'a>(
     Ok(())
 }
 
-/// Whether a package passes a test.
+/// Whether a package passes the test by which packages are listed.
 fn passes(alloc: Global, test: Test<'_>, candidate: Candidate<'_>) -> Result<bool, AllocError>
     ensures { TellsIf result (listed.passes test.entry candidate.entry) }
 {

@@ -1,8 +1,8 @@
-//! The operators of conditions.
+//! The operators of a query's conditions, as `=` and `<`.
 ghost use Rattle.std.specs.Prelude.{◌≡◌, ◌≤◌, length, is_some};
 ghost use Rattle.ports_query.specs.Conditions.{FindsOperator, operator_at, plain_length};
 
-/// How a text, or one of several, is compared with a value.
+/// How a text of a field, or one of several, is compared with the value of a condition.
 #[derive(Clone, Copy, Debug)]
 pub(crate) enum OperatorSign {
     /// `=`: it is the value.
@@ -13,7 +13,7 @@ pub(crate) enum OperatorSign {
     Has,
 }
 
-/// How a version is compared with another.
+/// How the version of a package is compared with the version in a condition.
 #[derive(Clone, Copy, Debug)]
 pub(crate) enum Bound {
     /// `<`
@@ -22,7 +22,7 @@ pub(crate) enum Bound {
     AtLeast,
 }
 
-/// An operator of a condition.
+/// An operator of a query's condition.
 #[derive(Clone, Copy, Debug)]
 pub(crate) enum Operator {
     /// One for any field.
@@ -31,7 +31,8 @@ pub(crate) enum Operator {
     Ordered(Bound),
 }
 
-/// The operator that a text begins with, and what follows it. `None` if the text begins with no operator.
+/// The operator of a condition that a text begins with, and what follows it. `None` if the text begins with
+/// no operator.
 pub(crate) fn operator_at(text: &str) -> Option<(Operator, &str)>
     ensures { FindsOperator result (operator_at text.now) }
 {
@@ -53,7 +54,8 @@ pub(crate) fn operator_at(text: &str) -> Option<(Operator, &str)>
     }
 }
 
-/// How many bytes of a text precede the first place where an operator begins: all of them if none begins.
+/// How many bytes of a condition's text precede the first place where an operator begins: all of them if none
+/// begins.
 pub(crate) fn plain_length(text: &[u8]) -> usize
     ensures length { result ≡ plain_length text.now }
     ensures inside { result ≤ length text.now }
@@ -66,7 +68,7 @@ pub(crate) fn plain_length(text: &[u8]) -> usize
     text.len()
 }
 
-/// Whether a text begins with an operator.
+/// Whether a text begins with an operator of a condition.
 fn begins_with_operator(text: &[u8]) -> bool
     ensures { result ≡ is_some (operator_at text.now) }
 {

@@ -1,4 +1,4 @@
-//! The dependencies of a port, and those that lead to one.
+//! The edges of one port, and the edges that lead to one port, out of all edges of a ports tree.
 ghost use Rattle.std.specs.Prelude.{◌≡◌};
 ghost use Rattle.std.specs.Option.{option_copied};
 ghost use Rattle.ports_query.specs.Edges as selection;
@@ -12,9 +12,9 @@ use port_deps::{Edge, RootEdge};
 use port_rules::DependKind;
 use std::alloc::{AllocError, Global};
 
-/// The dependencies of these kinds that the port at a path has, in their order. If the path names a
-/// subpackage, these are the subpackage's own and those of the port as a whole, to be built and tested. It
-/// fails only if memory runs out.
+/// The edges of these kinds that the port at a path has, in their order. If the path names a subpackage,
+/// these are the subpackage's own and those of the port as a whole, to be built and tested. It fails only if
+/// memory runs out.
 pub fn first_edges<'a>(
     alloc: Global,
     kinds: Kinds,
@@ -33,9 +33,9 @@ pub fn first_edges<'a>(
     Ok(found)
 }
 
-/// The dependencies of these kinds, of whatever status, that lead to the port that a path names, in
-/// their order. If the path names a subpackage, these are the ones whose item names it, too. It
-/// fails only if memory runs out.
+/// The edges of these kinds, of whatever status, that lead to the port that a path names, in their order. If
+/// the path names a subpackage, these are the ones whose item names it, too. It fails only if memory runs
+/// out.
 pub fn edges_to<'a>(
     alloc: Global,
     kinds: Kinds,
@@ -54,14 +54,14 @@ pub fn edges_to<'a>(
     Ok(found)
 }
 
-/// Whether a dependency is of these kinds and of a port, and of its subpackage if one is named.
+/// Whether an edge is of these kinds and of a port, and of its subpackage if one is named.
 fn is_first(kinds: Kinds, root: &str, subpackage: Option<&str>, edge: &RootEdge) -> bool
     ensures { result ≡ is_first_edge kinds root.now (option_copied subpackage.entry) edge.now }
 {
     kinds.have(edge.edge().kind()) && edge.root() == root && keeps(subpackage, edge.edge())
 }
 
-/// Whether a dependency is kept for a subpackage. If none is named, each dependency is.
+/// Whether an edge is kept that is asked for with a subpackage. If none is named, each edge is.
 fn keeps(subpackage: Option<&str>, edge: &Edge) -> bool
     ensures { result ≡ selection.keeps (option_copied subpackage.entry) edge.now }
 {
@@ -71,14 +71,14 @@ fn keeps(subpackage: Option<&str>, edge: &Edge) -> bool
     }
 }
 
-/// Whether dependencies of this kind are for the port as a whole.
+/// Whether edges of this kind are of the port as a whole, and not of one package.
 fn is_of_port(kind: DependKind) -> bool
     ensures { result ≡ selection.is_of_port kind }
 {
     matches!(kind, DependKind::Build | DependKind::Test)
 }
 
-/// Whether a dependency is of these kinds and leads to a port, and to its subpackage if one is named.
+/// Whether an edge is of these kinds and leads to a port, and to its subpackage if one is named.
 fn leads_to(
     alloc: Global,
     kinds: Kinds,
@@ -98,7 +98,7 @@ fn leads_to(
     Ok(target_root.text() == root && names_it(subpackage, target.subpackage()))
 }
 
-/// Whether a target names the same subpackage, if one is named.
+/// Whether the target of an edge names the subpackage that is asked for, if one is.
 fn names_it(subpackage: Option<&str>, named: Option<&str>) -> bool
     ensures { result ≡ names_it (option_copied subpackage.entry) (option_copied named.entry) }
 {

@@ -1,4 +1,4 @@
-//! The paths of ports as texts.
+//! The paths of ports as texts, for questions about dependencies.
 ghost use Rattle.std.specs.Prelude.{◌≡◌, IfOk};
 ghost use Rattle.pkg_path.specs.Paths.{port_path};
 ghost use Rattle.ports_query.specs.Paths as paths;
@@ -6,7 +6,7 @@ ghost use Rattle.ports_query.specs.Paths as paths;
 use pkg_path::PkgPath;
 use std::alloc::{AllocError, Global};
 
-/// The path of a port. A path without flavors is the text of its directory, which is lent.
+/// The path of a port as a text. A path without flavors is the text of its directory, which is lent.
 #[derive(Drop)]
 pub(crate) enum PortPath<'a> {
     /// Without flavors.
@@ -16,7 +16,7 @@ pub(crate) enum PortPath<'a> {
 }
 
 impl<'a> PortPath<'a> {
-    /// The path of the port that a path names.
+    /// The path, without subpackage, of the port that a path names, as a text.
     pub(crate) fn of(alloc: Global, target: &'a PkgPath) -> Result<PortPath<'a>, AllocError>
         ensures { IfOk result (λ path. paths.path_seen path ≡ port_path target.now) }
     {
@@ -26,7 +26,7 @@ impl<'a> PortPath<'a> {
         Ok(PortPath::Flavored(target.port_path(alloc)?))
     }
 
-    /// Its text.
+    /// The text of the port's path.
     pub(crate) fn text(&self) -> &str
         ensures { result.now ≡ paths.path_seen self.now }
     {

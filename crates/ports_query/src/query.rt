@@ -1,4 +1,4 @@
-//! Queries of packages.
+//! Queries of packages: conditions with semicolons between them.
 ghost use Rattle.std.specs.Prelude.{◌≡◌, IfOk, IsErrOf, Some, None, map};
 ghost use Rattle.ports_query.specs.Conditions.{condition_seen, query_conditions};
 
@@ -27,8 +27,8 @@ impl Model for Query {
 }
 
 impl Query {
-    /// The query that a text is: up to eight conditions with semicolons between
-    /// them. An empty text has none.
+    /// The query of packages that a text is: up to eight conditions with semicolons between them. An empty
+    /// text has none.
     ///
     /// A condition is a field, an operator and a value. The operator is the one that begins first of
     /// `!=`, `>=`, `=`, `~` and `<`. The fields are `path`, `name`, `stem`, `version`, `maintainer`,
@@ -59,7 +59,7 @@ impl Query {
         }
     }
 
-    /// The conditions, in the order of the text.
+    /// The conditions of the query, in the order of its text.
     pub(crate) fn conditions(&self) -> &[Condition]
         ensures { map condition_seen result.now ≡ self.now }
     {

@@ -1,4 +1,4 @@
-//! The ports that are reached over dependencies that are met, and those that reach one.
+//! The ports that a port reaches over dependencies that are met, and the ports that reach it.
 ghost use Rattle.std.specs.Prelude.{◌≡◌, IfOk, map};
 ghost use Rattle.text_graph.specs.Arrows.{arrows_seen};
 ghost use Rattle.text_graph.specs.Listed.{reached_list, reaching_list};
@@ -35,7 +35,7 @@ pub fn reached(
     reached_over(alloc, &first, &steps)
 }
 
-/// The ends of the ways over these steps whose first step is one of `first`.
+/// The ports that are reached over steps: the ends of the ways whose first step is one of `first`.
 fn reached_over(
     alloc: Global,
     first: &[Step<'_>],
@@ -68,7 +68,7 @@ pub fn reaching(
     reaching_over(alloc, &steps, goal.as_str())
 }
 
-/// The starts of the ways over these steps that end at a path.
+/// The ports that reach a path over steps: the starts of the ways that end at that path.
 fn reaching_over(alloc: Global, steps: &[Step<'_>], goal: &str) -> Result<Vec<String>, AllocError>
     ensures { GivesPorts result (reaching_list (map step_seen steps.now) goal.now) }
 {
@@ -87,7 +87,7 @@ struct Step<'a> {
 }
 
 impl<'a> Step<'a> {
-    /// The step over a dependency, if that is of these kinds and met.
+    /// The step over an edge, if the edge is of these kinds and met.
     fn over(alloc: Global, kinds: Kinds, edge: &'a RootEdge) -> Result<Option<Step<'a>>, AllocError>
         ensures { GivesStep result (the_reach.arrow_of kinds edge.now) }
     {
@@ -105,7 +105,7 @@ impl<'a> Step<'a> {
     }
 }
 
-/// The steps over those of the dependencies that are of these kinds and met, in their order.
+/// The steps over those of the edges that are of these kinds and met, in their order.
 fn steps_over<'a>(
     alloc: Global,
     kinds: Kinds,
@@ -120,7 +120,7 @@ fn steps_over<'a>(
     Ok(steps)
 }
 
-/// The same over dependencies that are lent one by one.
+/// The steps over those of the edges, lent one by one, that are of these kinds and met, in their order.
 fn steps_over_some<'a>(
     alloc: Global,
     kinds: Kinds,
@@ -135,7 +135,7 @@ fn steps_over_some<'a>(
     Ok(steps)
 }
 
-/// Adds a step, if there is one.
+/// Adds a step over an edge to others, if there is one.
 fn add_step<'a>(step: Option<Step<'a>>, steps: &mut Vec<Step<'a>>) -> Result<(), AllocError>
     ensures { AddsStep result steps.old steps.new step.entry }
 {
@@ -145,14 +145,14 @@ fn add_step<'a>(step: Option<Step<'a>>, steps: &mut Vec<Step<'a>>) -> Result<(),
     Ok(())
 }
 
-/// Whether a dependency with this status is met.
+/// Whether an edge with this status is met, so that a port is reached over it.
 fn is_met(status: Status) -> bool
     ensures { result ≡ the_reach.is_met status }
 {
     matches!(status, Status::Ok)
 }
 
-/// The steps as arrows between texts.
+/// The steps between ports as arrows between texts, for `text_graph`.
 fn arrows_over<'a>(alloc: Global, steps: &'a [Step<'_>]) -> Result<Vec<Arrow<'a>>, AllocError>
     ensures { IfOk result (λ arrows. arrows_seen arrows.items ≡ map step_seen steps.now) }
 {

@@ -1,4 +1,4 @@
-//! What listens for clients.
+//! The trait of what listens for clients.
 ghost use Rattle.std.specs.Prelude.{ℕ, IfOk};
 
 use crate::wire::Wire;
@@ -6,7 +6,7 @@ use refusals::OutOfMemory;
 use std::alloc::{AllocError, Global};
 use thiserror::Error;
 
-/// Why nothing listens.
+/// Why nothing listens for clients.
 #[derive(Clone, Copy, Debug, PartialEq, Eq, Error)]
 pub enum ListenFault {
     /// The port isn't available, or no socket is.
@@ -18,6 +18,7 @@ pub enum ListenFault {
 }
 
 impl From<AllocError> for ListenFault {
+    /// The fault that nothing listens for clients since there was no memory.
     fn from(error: AllocError) -> ListenFault {
         ListenFault::Memory(OutOfMemory::from(error))
     }
@@ -32,8 +33,8 @@ pub trait Listen {
 
     ghost listens_on: { ℕ → Self.Wire → Type 0 };
 
-    /// A wire that listens on the port. The error is `Port` if the port isn't available, and
-    /// `Memory` if memory runs out.
+    /// Listens for clients on the port, and gives the wire that carries their bytes. The error is `Port` if
+    /// the port isn't available, and `Memory` if memory runs out.
     fn listen(&self, alloc: Global, port: u16) -> Result<Self::Wire, ListenFault>
         ensures { IfOk result (listens_on port) };
 }

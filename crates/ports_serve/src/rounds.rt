@@ -1,4 +1,4 @@
-//! The service over a wire, round by round.
+//! Rounds of serving: each asks the wire for clients and bytes, and makes events happen to the service.
 ghost use Rattle.std.specs.Prelude.{◌≡◌, ◌<◌, ◌≤◌, map, OnErr};
 ghost use Rattle.std.specs.Option.{option_to_list};
 ghost use Rattle.ports_core.specs.State.{IsAllowed, room_at};
@@ -44,8 +44,8 @@ pub fn serve<W: Wire, K: Tenants>(
     Ok(service)
 }
 
-/// One round, whose caller is idle or isn't. It gives the buffer back, and whether the caller is idle after
-/// it: nothing came in the round, no reply was told, and no request waits.
+/// One round of serving, whose caller is idle or isn't. It gives the buffer back, and whether the caller is
+/// idle after it: nothing came in the round, no reply was told, and no request waits.
 fn round<W: Wire, K: Tenants>(
     wire: &mut W,
     service: &mut Service<K>,
@@ -64,8 +64,8 @@ fn round<W: Wire, K: Tenants>(
     (buffer, !(came | requests_wait(service)))
 }
 
-/// An event happens, and a connection that isn't opened, or that closes, is shut. It gives whether
-/// something came from a client with it, or a reply was told.
+/// Makes an event happen to the service in a round. A connection that isn't opened, or that closes, is shut.
+/// It gives whether something came from a client with it, or a reply was told.
 fn happen<W: Wire, K: Tenants>(wire: &mut W, service: &mut Service<K>, event: &Event) -> bool
     requires { IsAllowed event.now service.old }
     ensures { GoesByEvent W.after result event.now wire.old service.old wire.new service.new }
@@ -76,7 +76,7 @@ fn happen<W: Wire, K: Tenants>(wire: &mut W, service: &mut Service<K>, event: &E
     is_from_client(event) | told.reply.is_some()
 }
 
-/// Whether an event comes from a client: it isn't a turn.
+/// Whether an event of a round comes from a client: it isn't a turn.
 fn is_from_client(event: &Event) -> bool
     ensures { result ≡ comes event.now }
 {
@@ -90,6 +90,7 @@ fn is_from_client(event: &Event) -> bool
     }
 }
 
+/// Shuts the connection on the wire that an event should have opened, if the service refused it.
 fn shut_unopened<W: Wire>(wire: &mut W, event: &Event, refused: Option<Refused>)
     ensures { Leads W.after wire.old (map Shut (unopened event.now refused)) wire.new }
 {
@@ -98,6 +99,7 @@ fn shut_unopened<W: Wire>(wire: &mut W, event: &Event, refused: Option<Refused>)
     }
 }
 
+/// Shuts the connection on the wire that the service has closed, if there is one.
 fn shut_closed<W: Wire>(wire: &mut W, closed: Option<u64>)
     ensures { Leads W.after wire.old (map Shut (option_to_list closed)) wire.new }
 {
@@ -106,7 +108,7 @@ fn shut_closed<W: Wire>(wire: &mut W, closed: Option<u64>)
     }
 }
 
-/// Accepts a client, if one waits. It gives whether one came.
+/// Accepts a client from the wire in a round, if one waits. It gives whether one came.
 fn accept<W: Wire, K: Tenants>(wire: &mut W, service: &mut Service<K>, idle: bool) -> bool
     ensures { GoesBringing W.after result (Accepts idle) wire.old service.old wire.new service.new }
 {
@@ -117,7 +119,7 @@ fn accept<W: Wire, K: Tenants>(wire: &mut W, service: &mut Service<K>, idle: boo
     }
 }
 
-/// Reads each open connection. It gives the buffer back, and whether something came.
+/// Reads each open connection from the wire in a round. It gives the buffer back, and whether something came.
 fn read_all<W: Wire, K: Tenants>(
     wire: &mut W,
     service: &mut Service<K>,
@@ -138,8 +140,8 @@ fn read_all<W: Wire, K: Tenants>(
     (buffer, heard)
 }
 
-/// Reads a connection, if it has room: as many bytes as it has room for, up to the size of one read. It
-/// gives the buffer back, and whether something came.
+/// Reads a connection from the wire, if it has room: as many bytes as it has room for, up to the size of one
+/// read. It gives the buffer back, and whether something came.
 fn read<W: Wire, K: Tenants>(
     wire: &mut W,
     service: &mut Service<K>,
@@ -169,7 +171,7 @@ fn read<W: Wire, K: Tenants>(
     }
 }
 
-/// Reads bytes of a connection into the buffer, at most so many.
+/// Reads bytes of a connection from the wire into the buffer, at most so many.
 fn fill<W: Wire>(wire: &mut W, conn: u64, buffer: &mut Vec<u8>, size: usize) -> Outcome<usize>
     requires sized { IsBuffer buffer.old }
     requires within { size ≤ READ_SIZE }
@@ -181,8 +183,8 @@ fn fill<W: Wire>(wire: &mut W, conn: u64, buffer: &mut Vec<u8>, size: usize) -> 
     wire.read(conn, buffer.as_mut_slice())
 }
 
-/// The first bytes of the buffer come as a piece of a connection's stream. It gives the buffer back, and
-/// that something came.
+/// Gives the service the first bytes of the buffer, as a piece of a connection's stream. It gives the buffer
+/// back, and that something came.
 fn take_piece<W: Wire, K: Tenants>(
     wire: &mut W,
     service: &mut Service<K>,
@@ -208,7 +210,8 @@ fn take_piece<W: Wire, K: Tenants>(
     (buffer, came)
 }
 
-/// Writes to each connection that has bytes pending. It gives whether some were taken, or one was lost.
+/// Writes to each connection on the wire that has bytes pending. It gives whether some were taken, or one was
+/// lost.
 fn write_all<W: Wire, K: Tenants>(wire: &mut W, service: &mut Service<K>) -> bool
     ensures { GoesOver W.after result Writes wire.old service.old wire.new service.new }
 {
@@ -221,8 +224,8 @@ fn write_all<W: Wire, K: Tenants>(wire: &mut W, service: &mut Service<K>) -> boo
     written
 }
 
-/// Writes a connection's pending bytes, if there are some. It gives whether the wire took them up to
-/// some place, or the connection is lost.
+/// Writes a connection's pending bytes to the wire, if there are some. It gives whether the wire took them up
+/// to some place, or the connection is lost.
 fn write<W: Wire, K: Tenants>(wire: &mut W, service: &mut Service<K>, conn: u64) -> bool
     ensures { GoesBringing W.after result (Writes conn) wire.old service.old wire.new service.new }
 {
@@ -237,7 +240,7 @@ fn write<W: Wire, K: Tenants>(wire: &mut W, service: &mut Service<K>, conn: u64)
     }
 }
 
-/// Each tenant has a turn. It gives whether a reply was told.
+/// Gives each tenant its turn in a round. It gives whether a reply was told.
 fn turn_all<W: Wire, K: Tenants>(wire: &mut W, service: &mut Service<K>) -> bool
     ensures { GoesOverTenants W.after result TakesTurn wire.old service.old wire.new service.new }
 {
@@ -249,7 +252,7 @@ fn turn_all<W: Wire, K: Tenants>(wire: &mut W, service: &mut Service<K>) -> bool
     worked
 }
 
-/// Whether a request waits for a turn of some tenant. So does one for which work was done, but
+/// Whether a request waits for a turn of some tenant after a round. So does one for which work was done, but
 /// which isn't answered yet.
 fn requests_wait<K: Tenants>(service: &Service<K>) -> bool
     ensures { result ≡ waits service.now }

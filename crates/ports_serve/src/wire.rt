@@ -1,4 +1,4 @@
-//! What carries the bytes of connections.
+//! The trait of a wire: what carries the bytes of connections.
 ghost use Rattle.std.specs.Prelude.{◌≡◌, length};
 ghost use Rattle.ports_serve.specs.Calls.{Call, Accept, Write, Shut, FillsFront, GotWithin};
 
@@ -23,23 +23,23 @@ pub enum Outcome<T> {
 pub trait Wire {
     ghost after: { Self → Call → Self → Type 0 };
 
-    /// Takes the client that waited longest, if one waits, and gives its connection this number. If the
-    /// caller is idle, it may wait a while for something to come, on any connection.
+    /// Accepts the client that waited longest on the wire, if one waits, and gives its connection this
+    /// number. If the caller is idle, it may wait a while for something to come, on any connection.
     fn accept(&mut self, conn: u64, idle: bool) -> Outcome<()>
         ensures after { after self.old (Accept conn idle result) self.new };
 
-    /// Reads bytes of a connection into the front of the buffer; `Got` says how many.
+    /// Reads bytes of a connection from the wire into the front of the buffer; `Got` says how many.
     fn read(&mut self, conn: u64, buffer: &mut [u8]) -> Outcome<usize>
         ensures within { GotWithin (length buffer.old) result }
         ensures size { length buffer.new ≡ length buffer.old }
         ensures after { FillsFront after conn buffer.old buffer.new result self.old self.new };
 
-    /// Writes bytes to a connection, from the first on; `Got` says how many.
+    /// Writes bytes to a connection over the wire, from the first on; `Got` says how many.
     fn write(&mut self, conn: u64, bytes: &[u8]) -> Outcome<usize>
         ensures within { GotWithin (length bytes.now) result }
         ensures after { after self.old (Write conn bytes.now result) self.new };
 
-    /// Drops a connection.
+    /// Shuts a connection: the wire drops it.
     fn shut(&mut self, conn: u64)
         ensures after { after self.old (Shut conn) self.new };
 }

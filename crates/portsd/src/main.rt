@@ -9,6 +9,8 @@ use std::io;
 use std::process::ExitCode;
 use stored_tenants::StoredTenants;
 
+/// Runs the program `portsd`: hands its words, its streams and what listens to `portsd_run`, with
+/// `StoredTenants` to keep the worlds.
 fn main(rt: HostRuntime) -> ExitCode {
     let alloc = rt.alloc();
     let Ok(words) = words_given(&rt) else {

@@ -1,4 +1,4 @@
-//! Clients over TCP.
+//! Clients over TCP sockets: what listens on 127.0.0.1, and a wire of sockets.
 ghost use Rattle.std.specs.Prelude.{◌≡◌, ◌↔◌, IsTrue, MatchResult};
 ghost use Rattle.std.specs.IoError.{error_kind};
 ghost use Rattle.ports_serve.specs.declared.wire.Outcome.TheVariants as outcomes;
@@ -36,7 +36,7 @@ pub struct Loopback<'a, R> {
 }
 
 impl<'a, R> Loopback<'a, R> {
-    /// What listens over the networks of this host.
+    /// What listens for TCP clients over the networks of this host.
     pub fn new(net: &'a R) -> Loopback<'a, R> {
         Loopback { net }
     }
@@ -47,6 +47,7 @@ impl<R: Net> Listen for Loopback<'_, R> {
 
     ghost listens_on = { λ port wire. Unit {0} };
 
+    /// Listens for TCP clients on the port of 127.0.0.1, and gives the wire of their sockets.
     fn listen(&self, alloc: Global, port: u16) -> Result<Sockets, ListenFault> {
         let clients = Vec::with_capacity(alloc, MOST_CLIENTS)?;
         let events = Events::with_capacity(alloc, MOST_EVENTS)?;
@@ -63,7 +64,7 @@ impl<R: Net> Listen for Loopback<'_, R> {
     }
 }
 
-/// A listener on the port, and what waits for it.
+/// The TCP listener on the port, and what waits for its sockets to be ready.
 fn begin(net: &impl Net, port: u16) -> io::Result<(Poll, TcpListener)> {
     let poll = Poll::new(net)?;
     let mut listener = TcpListener::bind(net, address_of(port))?;
@@ -72,7 +73,7 @@ fn begin(net: &impl Net, port: u16) -> io::Result<(Poll, TcpListener)> {
     Ok((poll, listener))
 }
 
-/// The address of the port on 127.0.0.1.
+/// The socket address of the port on 127.0.0.1.
 fn address_of(port: u16) -> SocketAddr
     ensures { IsLocalAddress port result }
 {
@@ -93,7 +94,7 @@ struct Client {
 }
 
 impl Client {
-    /// A client of whose socket nothing is known.
+    /// A client of whose TCP socket nothing is known.
     fn new(conn: u64, stream: TcpStream) -> Client {
         Client {
             conn,
@@ -104,7 +105,7 @@ impl Client {
         }
     }
 
-    /// Its socket is said to be ready.
+    /// Notes that the host says that the client's socket is ready.
     fn note(&mut self, event: &Event) {
         self.may_read |= event.is_readable() || event.is_read_closed() || event.is_error();
         self.has_ended |= event.is_read_closed();
@@ -112,7 +113,7 @@ impl Client {
     }
 }
 
-/// What a client's socket is called where it is said to be ready.
+/// The token by which the host names a client's socket that is ready.
 fn token_of(conn: u64) -> Token {
     Token(conn.saturating_add(1) as usize)
 }
@@ -132,16 +133,17 @@ pub struct Sockets {
 }
 
 impl Sockets {
-    /// The address that is listened on. If the host can't give it, the error is the host's.
+    /// The socket address that is listened on. If the host can't give it, the error is the host's.
     pub fn address(&self) -> io::Result<SocketAddr> {
         self.listener.local_addr()
     }
 
+    /// The client whose TCP socket has this connection's number, if there is one.
     fn client(&mut self, conn: u64) -> Option<&mut Client> {
         self.clients.iter_mut().find(|client| client.conn == conn)
     }
 
-    /// Takes a client in. If it fails, the client is dropped.
+    /// Takes a client's TCP socket in, under this connection's number. If it fails, the client is dropped.
     fn take(&mut self, conn: u64, mut stream: TcpStream) -> io::Result<()> {
         if self.clients.len() >= MOST_CLIENTS {
             return Err(io::Error::from(ErrorKind::QuotaExceeded));
@@ -183,6 +185,7 @@ impl Sockets {
 impl Wire for Sockets {
     ghost after = { λ old call new. Unit {0} };
 
+    /// Accepts the TCP client that waited longest, if one waits; an idle caller waits a while.
     fn accept(&mut self, conn: u64, idle: bool) -> Outcome<()> {
         self.look(idle);
         if !self.may_accept {
@@ -201,6 +204,7 @@ impl Wire for Sockets {
         }
     }
 
+    /// Reads bytes from the TCP socket of a connection, unless the host has said that there is nothing more.
     fn read(&mut self, conn: u64, buffer: &mut [u8]) -> Outcome<usize> {
         let Some(client) = self.client(conn) else {
             return Outcome::Fault;
@@ -214,6 +218,7 @@ impl Wire for Sockets {
         outcome_of_read(read)
     }
 
+    /// Writes bytes to the TCP socket of a connection, unless the host has said that it takes no more.
     fn write(&mut self, conn: u64, bytes: &[u8]) -> Outcome<usize> {
         let Some(client) = self.client(conn) else {
             return Outcome::Fault;
@@ -227,12 +232,13 @@ impl Wire for Sockets {
         outcome_of(written)
     }
 
+    /// Drops the TCP socket of a connection.
     fn shut(&mut self, conn: u64) {
         self.clients.retain(|client| client.conn != conn);
     }
 }
 
-/// Whether a call would have to wait. If so, the host says when that is no longer so.
+/// Whether a call of a socket would have to wait. If so, the host says when that is no longer so.
 fn would_wait<T>(answer: &io::Result<T>) -> bool {
     match answer {
         Ok(_) => false,
@@ -240,8 +246,8 @@ fn would_wait<T>(answer: &io::Result<T>) -> bool {
     }
 }
 
-/// Whether the next read may bring something, though the host says nothing. If a read that could have brought so many
-/// bytes brought fewer, there are no more; the host says when others come.
+/// Whether the next read of a socket may bring something, though the host says nothing. If a read that could
+/// have brought so many bytes brought fewer, there are no more; the host says when others come.
 fn may_bring_more(read: &io::Result<usize>, room: usize) -> bool {
     match read {
         Ok(count) => *count >= room,
@@ -249,7 +255,7 @@ fn may_bring_more(read: &io::Result<usize>, room: usize) -> bool {
     }
 }
 
-/// What a read of a socket brought. A read of no bytes is the end.
+/// What a read of a TCP socket brought. A read of no bytes is the end.
 fn outcome_of_read(read: io::Result<usize>) -> Outcome<usize>
     ensures { MatchResult read (λ count. result ≡ heard count) (λ error. FailsAs (error_kind error) result) }
 {
@@ -259,8 +265,8 @@ fn outcome_of_read(read: io::Result<usize>) -> Outcome<usize>
     }
 }
 
-/// What a call of a socket brought: nothing yet, if it is to be tried again later, and a fault at
-/// any other error.
+/// What a call of a TCP socket brought: nothing yet, if it is to be tried again later, and a fault at any
+/// other error.
 fn outcome_of<T: Drop>(answer: io::Result<T>) -> Outcome<T>
     ensures { MatchResult answer (λ got. result ≡ outcomes.Got got) (λ error. FailsAs (error_kind error) result) }
 {
@@ -271,7 +277,7 @@ fn outcome_of<T: Drop>(answer: io::Result<T>) -> Outcome<T>
     }
 }
 
-/// Whether the call is to be tried again later.
+/// Whether a call of a socket failed so that it is to be tried again later.
 fn is_later(error: &io::Error) -> bool
     ensures { IsTrue result ↔ IsTriedAgain (error_kind error.now) }
 {

@@ -1,4 +1,4 @@
-//! The command line.
+//! The command line of the program: what its words ask for.
 ghost use Rattle.std.specs.Prelude.{◌≡◌, IfOk, map, false, string_bytes};
 ghost use Rattle.clap.specs.Words.{FailsBy, app_of, fault_of, found_of, rows_of, rule_of};
 ghost use Rattle.portsd_run.specs.CommandLine.{AsksFor, GivesConfig, GivesServing, keys_argument, port_argument, portsd};
@@ -9,13 +9,13 @@ use ports_core::Config;
 use std::alloc::{AllocError, Global};
 use text_parts::copies_of;
 
-/// The most parses, and the most evaluations, that may be kept.
+/// The most parses, and the most evaluations, that the command line may ask to be kept.
 const MOST_KEPT: u32 = 65_536;
 
-/// The greatest port.
+/// The greatest port that the command line may name.
 const LAST_PORT: u16 = 65_535;
 
-/// The most rounds.
+/// The most rounds that the command line may ask for.
 const MOST_ROUNDS: u32 = 4_294_967_295;
 
 /// How many parses, and how many evaluations, are kept if the command line doesn't say.
@@ -23,7 +23,7 @@ const PARSES: u32 = 256;
 
 const EVALS: u32 = 1_024;
 
-/// What a command line asks for.
+/// What the program's command line asks for.
 #[derive(Debug, Drop)]
 pub enum Invocation {
     /// A run of the script on standard input, over a service that begins with this config.
@@ -32,7 +32,7 @@ pub enum Invocation {
     Serve(Serving),
 }
 
-/// A service for clients that is asked for.
+/// What the command line `portsd serve` asks for: a service for clients.
 #[derive(Debug, Drop)]
 pub struct Serving {
     /// Where it listens, on 127.0.0.1.
@@ -43,8 +43,8 @@ pub struct Serving {
     pub config: Config,
 }
 
-/// What a command line asks for. Its first word is the program's name. The error has the text for the
-/// terminal: a fault of usage, help, or that memory ran out.
+/// What the program's command line asks for. Its first word is the program's name. The error has the text for
+/// the terminal: a fault of usage, help, or that memory ran out.
 pub fn read_command(alloc: Global, words: &[String]) -> Result<Invocation, Error>
     ensures read { IfOk result (AsksFor (map string_bytes words.now)) }
     ensures fails { FailsBy (fault_of portsd (map string_bytes words.now)) result }
@@ -63,7 +63,7 @@ pub fn read_command(alloc: Global, words: &[String]) -> Result<Invocation, Error
     }
 }
 
-/// What is given to `serve`.
+/// What the command line gives to `portsd serve`: a port, a number of rounds, and a config.
 fn serving_given(alloc: Global, given: &ArgMatches<'_>) -> Result<Serving, AllocError>
     ensures { IfOk result (GivesServing (rows_of (found_of given.now))) }
 {
@@ -74,7 +74,7 @@ fn serving_given(alloc: Global, given: &ArgMatches<'_>) -> Result<Serving, Alloc
     })
 }
 
-/// The config that is given to a subcommand.
+/// The config, keys and sizes, that the command line gives to a subcommand.
 fn config_given(alloc: Global, given: &ArgMatches<'_>) -> Result<Config, AllocError>
     ensures { IfOk result (GivesConfig (rows_of (found_of given.now))) }
 {
@@ -85,6 +85,7 @@ fn config_given(alloc: Global, given: &ArgMatches<'_>) -> Result<Config, AllocEr
     })
 }
 
+/// The command line of `portsd`, with its subcommands `serve` and `replay`.
 fn portsd_command<'a>(alloc: Global) -> Result<Command<'a>, AllocError>
     ensures { IfOk result (λ command. app_of command ≡ portsd) }
 {
@@ -97,6 +98,7 @@ fn portsd_command<'a>(alloc: Global) -> Result<Command<'a>, AllocError>
         .subcommand(replay_command(alloc)?)
 }
 
+/// The command line of the subcommand `serve`, with its arguments.
 fn serve_command<'a>(alloc: Global) -> Result<Command<'a>, AllocError>
     ensures { IfOk result (λ command. app_of command ≡ serve) }
 {
@@ -111,6 +113,7 @@ fn serve_command<'a>(alloc: Global) -> Result<Command<'a>, AllocError>
         .arg(keys_argument(alloc))
 }
 
+/// The command line of the subcommand `replay`, with its arguments.
 fn replay_command<'a>(alloc: Global) -> Result<Command<'a>, AllocError>
     ensures { IfOk result (λ command. app_of command ≡ replay) }
 {
@@ -123,6 +126,7 @@ fn replay_command<'a>(alloc: Global) -> Result<Command<'a>, AllocError>
         .arg(keys_argument(alloc))
 }
 
+/// The argument `--port` of the command line: the port of 127.0.0.1 to listen on.
 fn port_argument<'a>(alloc: Global) -> Arg<'a>
     ensures { (rule_of result ≡ port_argument) × (result.global ≡ false) }
 {
@@ -135,6 +139,7 @@ fn port_argument<'a>(alloc: Global) -> Arg<'a>
         .value_parser(clap::value_parser!(u16).range(1..=LAST_PORT as i64))
 }
 
+/// The argument `--turns` of the command line: how many rounds to serve.
 fn turns_argument<'a>(alloc: Global) -> Arg<'a>
     ensures { (rule_of result ≡ turns_argument) × (result.global ≡ false) }
 {
@@ -147,6 +152,7 @@ fn turns_argument<'a>(alloc: Global) -> Arg<'a>
         .value_parser(clap::value_parser!(u32).range(1..=MOST_ROUNDS as i64))
 }
 
+/// An argument of the command line, `--parses` or `--evals`, that says how many may be kept.
 fn size_argument<'a>(alloc: Global, name: &'a str, help: &'a str) -> Arg<'a>
     ensures { (rule_of result ≡ size_argument name.entry.now) × (result.global ≡ false) }
 {
@@ -158,6 +164,7 @@ fn size_argument<'a>(alloc: Global, name: &'a str, help: &'a str) -> Arg<'a>
         .value_parser(clap::value_parser!(u32).range(1..=MOST_KEPT as i64))
 }
 
+/// The argument of the command line that has the keys of the tenants.
 fn keys_argument<'a>(alloc: Global) -> Arg<'a>
     ensures { (rule_of result ≡ keys_argument) × (result.global ≡ false) }
 {

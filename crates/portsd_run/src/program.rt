@@ -1,4 +1,4 @@
-//! One run of the program.
+//! One run of the program, from the words of its command line to its exit status.
 ghost use Rattle.clap.specs.Words.{kind_of};
 ghost use Rattle.portsd_run.specs.CommandLine.{seen, EndsUnasked, RunsMain, RunsOver};
 ghost use Rattle.portsd_run.specs.ScriptRun.{io_bytes};
@@ -44,7 +44,7 @@ pub fn run_command<K: Tenants, R: Read, O: Write, E: Write, L: Listen>(
     }
 }
 
-/// The same, with the exit status as `main` returns it.
+/// Runs the program as `run_command` does, with the exit status as `main` returns it.
 pub fn run_program<K: Tenants, R: Read, O: Write, E: Write, L: Listen>(
     alloc: Global,
     words: &[String],
@@ -72,12 +72,14 @@ impl Library for Clap {
 
     ghost for_memory = { λ error. kind_of error ≡ OutOfMemory };
 
+    /// Whether the library of the command line failed since memory ran out.
     fn is_for_memory(error: &Error) -> bool {
         error.kind() == ErrorKind::OutOfMemory
     }
 }
 
-/// Prints help, or says why the words ask for no run, and gives the status.
+/// Prints the program's help, or says why the words of the command line ask for no run, and gives the exit
+/// status.
 fn answer<O: Write, E: Write>(error: &Error, out: &mut O, err: &mut E) -> u8
     ensures { EndsUnasked (kind_of error.now) (O.contents out.old) (O.contents out.new)
         (E.contents err.old) (E.contents err.new) result }

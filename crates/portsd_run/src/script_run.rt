@@ -1,4 +1,4 @@
-//! One run of a script.
+//! One run of a script of events, `portsd replay`, from its input to its output.
 ghost use Rattle.std.specs.Prelude.{◌≡◌, true, OnOk, IfErr, vec_len};
 ghost use Rattle.ports_core.specs.Keys.{is_fit};
 ghost use Rattle.portsd_run.specs.ScriptRun.{io_bytes, run_text, Completes, CutsShort, Ends, EndsScriptEarly, Finishes};
@@ -34,8 +34,8 @@ pub fn run_config<K: Tenants, R: Read, O: Write, E: Write>(
     }
 }
 
-/// Reads a script, runs it over a service that begins with the config, and prints the effects of its
-/// events. The error is the failure that ends it early.
+/// Reads a script of events, runs it over a service that begins with the config, and prints the effects of
+/// its events. The error is the failure that ends it early.
 fn run<K: Tenants, R: Read, O: Write>(
     alloc: Global,
     config: Config,
@@ -71,8 +71,8 @@ fn run_script<K: Tenants, O: Write>(
     print_run(alloc, script, ran, out)
 }
 
-/// Prints the effects of a script's events that happened. The error is the failure that ended the run, or
-/// that of the output.
+/// Prints the effects of a script's events that happened in the run. The error is the failure that ended the
+/// run, or that of the output.
 fn print_run<K: Tenants, O: Write>(
     alloc: Global,
     script: &Script,
@@ -94,7 +94,7 @@ fn print_run<K: Tenants, O: Write>(
     }
 }
 
-/// Prints the effects of the events whose steps these are.
+/// Prints the effects of the events of a script's run whose steps these are.
 fn print<O: Write>(
     alloc: Global,
     script: &Script,

@@ -1,4 +1,4 @@
-//! One run of a service for clients.
+//! One run of a service for clients, `portsd serve`, from listening to its last round.
 ghost use Rattle.std.specs.Prelude.{◌≡◌, Ok, IfOk, IfErr, OnOk};
 ghost use Rattle.portsd_text.specs.declared.failure.Failure.TheVariants as failures;
 ghost use Rattle.portsd_run.specs.ScriptRun.{Prints, PrintsPart};
@@ -11,8 +11,8 @@ use portsd_text::{DONE, Failure, report, write_whole};
 use std::alloc::Global;
 use std::io::Write;
 
-/// The wire that listens. The failure is `CannotListen` if the port isn't available, and `Memory` if
-/// memory ran out.
+/// The wire of a service that listens for clients. The failure is `CannotListen` if the port isn't available,
+/// and `Memory` if memory ran out.
 fn listening<W>(begun: Result<W, ListenFault>) -> Result<W, Failure>
     ensures listens { IfOk result (λ wire. begun ≡ Ok wire) }
     ensures fails { FailsToListen result begun }
@@ -47,8 +47,8 @@ pub fn run_serving<K: Tenants, L: Listen, O: Write, E: Write>(
     }
 }
 
-/// Starts the service, listens, says so, and serves all rounds. The error is the
-/// failure that ends it early.
+/// Runs a service for clients: starts it, listens, says so, and serves all rounds. The error is the failure
+/// that ends it early.
 fn serve_clients<K: Tenants, L: Listen, O: Write>(
     alloc: Global,
     serving: Serving,
@@ -71,7 +71,7 @@ fn serve_clients<K: Tenants, L: Listen, O: Write>(
     Ok(())
 }
 
-/// Says that clients are served.
+/// Says on the output that clients are served: `portsd: ready`.
 fn say_ready<O: Write>(out: &mut O) -> Result<(), Failure>
     ensures said { Prints result ready_text O.contents out.old out.new }
     ensures fails { IfErr result (λ failure. failure ≡ failures.CannotWrite) }

@@ -1,4 +1,4 @@
-//! Why a run ends early.
+//! The failures that end a run of the program early: what is said of each, and its exit status.
 ghost use Rattle.std.specs.Prelude.{◌≡◌};
 ghost use Rattle.refusals.specs.Refused.{refused};
 ghost use Rattle.portsd_text.specs.declared.failure.Failure.TheVariants as failures;
@@ -22,7 +22,7 @@ const FAILED: u8 = 1;
 /// The exit status if what was asked can't be done.
 pub const REFUSED: u8 = 2;
 
-/// Why a run ended early.
+/// The failure that ended a run of the program early.
 #[derive(Clone, Copy, Debug)]
 pub enum Failure {
     /// A key can't be one, is given twice, or is one too many; or a size is out of its limits.
@@ -42,6 +42,7 @@ pub enum Failure {
 }
 
 impl Failure {
+    /// The exit status of the program after this failure.
     fn status(self) -> u8
         ensures { result ≡ failure_status self }
     {
@@ -56,6 +57,7 @@ impl Failure {
 impl From<AllocError> for Failure {
     ghost from_gives = { λ _ failure. failure ≡ failures.Memory refused };
 
+    /// The failure of a run for which there was no memory.
     fn from(error: AllocError) -> Failure {
         Failure::Memory(OutOfMemory::from(error))
     }
@@ -64,6 +66,7 @@ impl From<AllocError> for Failure {
 impl From<ScriptFault> for Failure {
     ghost from_gives = { λ fault failure. failure ≡ script_failure fault };
 
+    /// The failure of a run whose script wasn't read.
     fn from(fault: ScriptFault) -> Failure {
         match fault {
             ScriptFault::BadEvent(line) => Failure::BadEvent(line),
@@ -75,6 +78,7 @@ impl From<ScriptFault> for Failure {
 impl From<NewFault> for Failure {
     ghost from_gives = { λ fault failure. failure ≡ new_failure fault };
 
+    /// The failure of a run whose service couldn't begin.
     fn from(fault: NewFault) -> Failure {
         match fault {
             NewFault::Config => Failure::BadKey,
@@ -84,7 +88,7 @@ impl From<NewFault> for Failure {
     }
 }
 
-/// Writes the text of the failure, as far as it can be written, and gives its status.
+/// Writes the text of a run's failure, as far as it can be written, and gives its exit status.
 pub fn report<E: Write>(failure: Failure, err: &mut E) -> u8
     ensures status { result ≡ failure_status failure }
     ensures said { AppendsUpTo (E.contents err.old) (E.contents err.new) (failure_text failure) }
@@ -93,7 +97,7 @@ pub fn report<E: Write>(failure: Failure, err: &mut E) -> u8
     failure.status()
 }
 
-/// Writes the text of a failure.
+/// Writes the text that says why a run failed.
 fn say<E: Write>(failure: Failure, err: &mut E) -> io::Result<()>
     ensures written { WritesAll E.contents result err.old err.new (failure_text failure) }
     ensures front { FailsAfterFront E.contents result err.old err.new (failure_text failure) }
@@ -109,7 +113,7 @@ fn say<E: Write>(failure: Failure, err: &mut E) -> io::Result<()>
     }
 }
 
-/// Writes a text that names a line of the script.
+/// Writes the text of a failure that names a line of the script.
 fn say_line<E: Write>(line: u64, what: &str, err: &mut E) -> io::Result<()>
     ensures written { WritesAll E.contents result err.old err.new (line_text line what.now) }
     ensures front { FailsAfterFront E.contents result err.old err.new (line_text line what.now) }

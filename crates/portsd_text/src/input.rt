@@ -1,4 +1,4 @@
-//! Inputs read to their end.
+//! The input of the program, read to its end.
 ghost use Rattle.std.specs.Prelude.{OnErr};
 ghost use Rattle.portsd_text.specs.Scripts.{HasGivenSome, ReadsInput};
 
@@ -8,7 +8,7 @@ use std::io::{ErrorKind, Read};
 /// The most reads of an input. If an input hasn't ended by then, it is treated as if its next read failed.
 const MOST_READS: u64 = 4_294_967_296;
 
-/// The bytes that an input gave.
+/// The bytes that the program's input gave.
 #[derive(Drop)]
 pub struct Given {
     /// The bytes, up to the input's end or to the read that failed.
@@ -17,8 +17,8 @@ pub struct Given {
     pub whole: bool,
 }
 
-/// Reads an input to its end, or up to a read that fails. A read that was interrupted is tried again. It
-/// fails only if there is no memory for the bytes.
+/// Reads the program's input to its end, or up to a read that fails. A read that was interrupted is tried
+/// again. It fails only if there is no memory for the bytes.
 pub fn read_input<R: Read>(alloc: Global, reader: &mut R) -> Result<Given, AllocError>
     ensures given { ReadsInput result (R.remaining reader.old) (R.remaining reader.new) }
     ensures err { OnErr result (HasGivenSome (R.remaining reader.old) (R.remaining reader.new)) }

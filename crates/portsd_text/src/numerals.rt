@@ -2,8 +2,8 @@
 ghost use Rattle.std.specs.Prelude.{◌≡◌};
 ghost use Rattle.portsd_text.specs.Numerals.{number_of};
 
-/// The number that the text writes: 1 to 20 decimal digits, within 64 bits. Leading zeros are allowed.
-/// `None` for any other text, also for the empty one.
+/// The number that a text in a script writes: 1 to 20 decimal digits, within 64 bits. Leading zeros are
+/// allowed. `None` for any other text, also for the empty one.
 pub fn read_number(text: &str) -> Option<u64>
     ensures { result ≡ number_of text.now }
 {

@@ -1,12 +1,12 @@
-//! Bytes written to their end.
+//! The output of the program: bytes written to their end.
 ghost use Rattle.std.specs.Prelude.{◌≢◌, IfErr};
 ghost use Rattle.std.specs.IoError.{error_kind};
 ghost use Rattle.portsd_text.specs.Output.{WritesAll, FailsAfterFront};
 
 use std::io::{self, ErrorKind, Write};
 
-/// Writes all of the bytes, each once, in as many writes as that takes. A write that was
-/// interrupted is tried again.
+/// Writes all of the bytes to the program's output, each once, in as many writes as that takes. A write that
+/// was interrupted is tried again.
 ///
 /// The error is that of the write that failed or took nothing. Up to there a front of the bytes was
 /// written. If there are no bytes, nothing fails.

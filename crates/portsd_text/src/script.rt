@@ -1,4 +1,4 @@
-//! Scripts of events.
+//! Scripts of events, read from an input.
 ghost use Rattle.std.specs.Prelude.{◌≡◌, slice_get, IfOk, IfErr, OnOk};
 ghost use Rattle.refusals.specs.Refused.{refused};
 ghost use Rattle.portsd_text.specs.declared.script.ScriptFault.TheVariants as faults;
@@ -15,7 +15,7 @@ use std::alloc::{AllocError, AllocFailed, Global};
 use std::io::Read;
 use thiserror::Error;
 
-/// Why a script wasn't read.
+/// Why a script of events wasn't read.
 #[derive(Clone, Copy, Debug, PartialEq, Eq, Error)]
 pub enum ScriptFault {
     /// This line, counted from 1, is in no form of a script, or couldn't be read.
@@ -29,6 +29,7 @@ pub enum ScriptFault {
 impl From<AllocError> for ScriptFault {
     ghost from_gives = { λ _ fault. fault ≡ faults.Memory refused };
 
+    /// The fault that a script wasn't read since there was no memory.
     fn from(error: AllocError) -> ScriptFault {
         ScriptFault::Memory(OutOfMemory::from(error))
     }
@@ -37,6 +38,7 @@ impl From<AllocError> for ScriptFault {
 impl<T: Drop> From<AllocFailed<T>> for ScriptFault {
     ghost from_gives = { λ _ fault. fault ≡ faults.Memory refused };
 
+    /// The fault that a script wasn't read since there was no memory for one more event.
     fn from(error: AllocFailed<T>) -> ScriptFault {
         ScriptFault::Memory(OutOfMemory::from(error))
     }
@@ -50,8 +52,8 @@ pub struct Script {
 }
 
 impl Script {
-    /// The event at this place of the script, with its line before it. `None` if the
-    /// script ends before this place.
+    /// The event at this place of the script, with its line before it. `None` if the script ends before this
+    /// place.
     pub fn entry(&self, index: usize) -> Option<(u64, &Event)>
         ensures { LendsEntry result (slice_get (numbered self.now) index) }
     {
@@ -60,7 +62,7 @@ impl Script {
         Some((*line, event))
     }
 
-    /// Adds an event with its line. The only error is `Memory`.
+    /// Adds an event with its line to the script. The only error is `Memory`.
     fn push(&mut self, line: u64, event: Event) -> Result<(), ScriptFault>
         requires { IsPaired self.old }
         ensures added { AddsEntry result self.old self.new (line, entry_of_event event) }
@@ -73,7 +75,7 @@ impl Script {
     }
 }
 
-/// Reads a whole script: its events with their lines. Empty lines and lines that begin with `#` are
+/// Reads a whole script of events: the events with their lines. Empty lines and lines that begin with `#` are
 /// passed over, but counted.
 ///
 /// `BadEvent` names the first line that is in no form of a script. If a read fails, the line where it
@@ -88,7 +90,7 @@ pub fn read_script<R: Read>(alloc: Global, reader: &mut R) -> Result<Script, Scr
     read_lines(alloc, given.text.as_slice(), given.whole)
 }
 
-/// The events of a script's text. If the text isn't whole, its last line is a bad one.
+/// The script that a text is: the event of each line. If the text isn't whole, its last line is a bad one.
 fn read_lines(alloc: Global, text: &[u8], whole: bool) -> Result<Script, ScriptFault>
     ensures ok { GivesReading result (script_of whole text.now) }
     ensures paired { IfOk result IsPaired }
@@ -112,8 +114,8 @@ fn read_lines(alloc: Global, text: &[u8], whole: bool) -> Result<Script, ScriptF
     Ok(script)
 }
 
-/// The first line of a text, and the text after the line feed that ends it. `None` if
-/// the text has no line feed.
+/// The first line of a script's text, and the text after the line feed that ends it. `None` if the text has
+/// no line feed.
 fn first_line(text: &[u8]) -> Option<(&[u8], &[u8])>
     ensures lines { CutsFirstLine result text.now }
     ensures shorter { LeavesLess result text.now }
@@ -122,7 +124,7 @@ fn first_line(text: &[u8]) -> Option<(&[u8], &[u8])>
     Some((&text[..end], &text[end + 1..]))
 }
 
-/// Adds the event of a line, unless the line is passed over.
+/// Adds the event of a line to the script, unless the line is passed over.
 fn push_line(alloc: Global, script: &mut Script, line: u64, text: &[u8]) -> Result<(), ScriptFault>
     requires { IsPaired script.old }
     ensures ok { AddsLine result script.old script.new line text.now }

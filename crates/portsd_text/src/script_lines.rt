@@ -1,4 +1,4 @@
-//! One line of a script.
+//! The lines of a script: the event that each writes.
 ghost use Rattle.std.specs.Prelude.{◌≡◌, ◌==◌, ◌<◌, IfSome, option_map};
 ghost use Rattle.std.specs.List.{position};
 ghost use Rattle.portsd_text.specs.Escapes.{unescaped, escape_of, hex_escape, hex_value, ReadsByte, GivesBytes};
@@ -26,7 +26,7 @@ pub fn read_event(alloc: Global, line: &[u8]) -> Result<Option<Event>, AllocErro
     read_worded(alloc, word, rest)
 }
 
-/// The event that a word and what follows it write.
+/// The event that a word and what follows it write in a line of a script.
 fn read_worded(alloc: Global, word: &str, rest: &str) -> Result<Option<Event>, AllocError>
     ensures { ReadsEvent result (worded word.now rest.now) }
 {
@@ -41,7 +41,7 @@ fn read_worded(alloc: Global, word: &str, rest: &str) -> Result<Option<Event>, A
     }
 }
 
-/// `C TEXT`: bytes that came on a connection.
+/// The event of a script's line `C TEXT`: bytes that came on a connection.
 fn read_piece(alloc: Global, text: &str) -> Result<Option<Event>, AllocError>
     ensures { ReadsEvent result (at_blank piece_of text.now) }
 {
@@ -57,7 +57,7 @@ fn read_piece(alloc: Global, text: &str) -> Result<Option<Event>, AllocError>
     }
 }
 
-/// `C N` or `C all`: bytes of a connection that were written.
+/// The event of a script's line `C N` or `C all`: bytes of a connection that were written.
 fn read_wrote(text: &str) -> Option<Event>
     ensures { option_map entry_of_event result ≡ at_blank wrote_of text.now }
 {
@@ -70,7 +70,7 @@ fn read_wrote(text: &str) -> Option<Event>
     Some(Event::Wrote(conn, Some(count as usize)))
 }
 
-/// `T`: a turn of a tenant.
+/// The event of a script's line `T`: a turn of a tenant.
 fn read_turn(text: &str) -> Option<Event>
     ensures { option_map entry_of_event result ≡ option_map Turn (number_of text.now) }
 {
@@ -78,8 +78,8 @@ fn read_turn(text: &str) -> Option<Event>
     Some(Event::Turn(tenant as usize))
 }
 
-/// The bytes that an escaped text encodes: `\r`, `\n`, `\t`, `\\`, and `\xhh` with two hexadecimal digits
-/// of either case. `None` if a backslash begins none of these.
+/// The bytes that the escaped text in a script's line encodes: `\r`, `\n`, `\t`, `\\`, and `\xhh` with two
+/// hexadecimal digits of either case. `None` if a backslash begins none of these.
 fn unescape(alloc: Global, text: &[u8]) -> Result<Option<Vec<u8>>, AllocError>
     ensures { GivesBytes result (unescaped text.now) }
 {
@@ -97,14 +97,15 @@ fn unescape(alloc: Global, text: &[u8]) -> Result<Option<Vec<u8>>, AllocError>
     Ok(Some(bytes))
 }
 
-/// Where the first backslash of a text is.
+/// The index of the first backslash in the text of a script's line.
 fn first_backslash(text: &[u8]) -> Option<usize>
     ensures { result ≡ position (λ byte. byte == 92) text.now }
 {
     text.iter().position(|byte| *byte == b'\\')
 }
 
-/// The byte that the text after a backslash means, and what is left of the text.
+/// The byte that an escape in a script's line means, given the text after its backslash, and what is left of
+/// the text.
 fn read_escape(text: &[u8]) -> Option<(u8, &[u8])>
     ensures { ReadsByte result (escape_of text.now) }
 {
@@ -118,7 +119,8 @@ fn read_escape(text: &[u8]) -> Option<(u8, &[u8])>
     }
 }
 
-/// The byte that two hexadecimal digits write, and what is left of the text.
+/// The byte that the two hexadecimal digits of an escape in a script's line write, and what is left of the
+/// text.
 fn read_hex(text: &[u8]) -> Option<(u8, &[u8])>
     ensures { ReadsByte result (hex_escape text.now) }
 {
@@ -130,7 +132,7 @@ fn read_hex(text: &[u8]) -> Option<(u8, &[u8])>
     Some((high * 16 + low, rest))
 }
 
-/// What a hexadecimal digit of either case is worth.
+/// The value of a hexadecimal digit of either case in a script's line.
 fn hex_value(digit: u8) -> Option<u8>
     ensures value { result ≡ hex_value digit }
     ensures small { IfSome result (λ value. value < 16) }

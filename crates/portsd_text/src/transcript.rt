@@ -1,4 +1,4 @@
-//! What a run prints.
+//! The transcript of a run: the lines that are printed of its events.
 ghost use Rattle.std.specs.Prelude.{◌≡◌, true};
 ghost use Rattle.std.specs.List.{position};
 ghost use Rattle.std.specs.Str.{IsUtf8};
@@ -13,9 +13,10 @@ use ports_core::{Event, Refused, Step, Tell};
 use std::alloc::{AllocError, Global};
 use std::fmt::Write;
 
-/// The lines that a run prints. For each event they are, in this order, the bytes that it sent, its reply,
-/// the refusal of a connection, and the connection that closed. Each line begins with the number of the
-/// event's line. Events that have no step print nothing. It fails only if there is no memory for the text.
+/// The transcript of a run: the lines that it prints. For each event they are, in this order, the bytes that
+/// it sent, its reply, the refusal of a connection, and the connection that closed. Each line begins with the
+/// number of the event's line. Events that have no step print nothing. It fails only if there is no memory
+/// for the text.
 pub fn transcript_text(alloc: Global, script: &Script, steps: &[Step]) -> Result<String, AllocError>
     ensures { PrintsText result (transcript (numbered script.now) steps.now) }
 {
@@ -28,7 +29,7 @@ pub fn transcript_text(alloc: Global, script: &Script, steps: &[Step]) -> Result
     Ok(text)
 }
 
-/// Everything that is printed of one event.
+/// Adds all lines of one event to the transcript of a run.
 fn push_step(text: &mut String, line: u64, event: &Event, step: &Step) -> Result<(), AllocError>
     ensures { AddsText result text.old text.new (printed line (entry_of_event event.now) step.now) }
 {
@@ -39,7 +40,7 @@ fn push_step(text: &mut String, line: u64, event: &Event, step: &Step) -> Result
     push_closed(text, line, told.closed)
 }
 
-/// The bytes that a Wrote took off its connection, if there are some.
+/// Adds the bytes that a Wrote took off its connection to the transcript, if there are some.
 fn push_sent(text: &mut String, line: u64, event: &Event, bytes: &[u8]) -> Result<(), AllocError>
     ensures { AddsText result text.old text.new (sent_line line (entry_of_event event.now) bytes.now) }
 {
@@ -54,7 +55,7 @@ fn push_sent(text: &mut String, line: u64, event: &Event, bytes: &[u8]) -> Resul
     text.push_str("\n")
 }
 
-/// A reply, if there is one: its tenant, its connection and the number of its status.
+/// Adds a reply to the transcript, if there is one: its tenant, its connection and the number of its status.
 fn push_told(text: &mut String, line: u64, reply: &Option<Tell>) -> Result<(), AllocError>
     ensures { AddsText result text.old text.new (told_line line reply.now) }
 {
@@ -70,7 +71,7 @@ fn push_told(text: &mut String, line: u64, reply: &Option<Tell>) -> Result<(), A
     }
 }
 
-/// A connection that wasn't opened, if there is one.
+/// Adds a connection that wasn't opened to the transcript, if there is one.
 fn push_refused(text: &mut String, line: u64, refused: Option<Refused>) -> Result<(), AllocError>
     ensures { AddsText result text.old text.new (refused_line line refused) }
 {
@@ -81,6 +82,7 @@ fn push_refused(text: &mut String, line: u64, refused: Option<Refused>) -> Resul
     writeln!(text, "{line} refused {why}")
 }
 
+/// The word in a transcript that says why a connection wasn't opened.
 fn refused_word(refused: Refused) -> &'static str
     ensures { result.now ≡ refused_word refused }
 {
@@ -90,7 +92,7 @@ fn refused_word(refused: Refused) -> &'static str
     }
 }
 
-/// The connection that closed, if there is one.
+/// Adds the connection that closed to the transcript, if there is one.
 fn push_closed(text: &mut String, line: u64, closed: Option<u64>) -> Result<(), AllocError>
     ensures { AddsText result text.old text.new (closed_line line closed) }
 {
@@ -100,7 +102,7 @@ fn push_closed(text: &mut String, line: u64, closed: Option<u64>) -> Result<(), 
     writeln!(text, "{line} closed {conn}")
 }
 
-/// Bytes as a script writes them.
+/// Adds bytes to the transcript as a script writes them, with escapes.
 fn push_escaped(text: &mut String, bytes: &[u8]) -> Result<(), AllocError>
     ensures { AddsText result text.old text.new (escaped_bytes bytes.now) }
 {
@@ -113,22 +115,22 @@ fn push_escaped(text: &mut String, bytes: &[u8]) -> Result<(), AllocError>
     push_text(text, rest)
 }
 
-/// Where the first byte is that is printed as an escape.
+/// The index of the first byte that a transcript prints as an escape.
 fn first_escaped(bytes: &[u8]) -> Option<usize>
     ensures { result ≡ position is_escaped bytes.now }
 {
     bytes.iter().position(|byte| is_escaped(*byte))
 }
 
-/// Whether a byte is printed as an escape: the backslash is, and so is each byte
-/// that isn't from 32 to 126.
+/// Whether a transcript prints a byte as an escape: it does so for the backslash, and for each byte that
+/// isn't from 32 to 126.
 fn is_escaped(byte: u8) -> bool
     ensures { result ≡ is_escaped byte }
 {
     byte == b'\\' || !matches!(byte, b' '..=b'~')
 }
 
-/// Bytes that are a text, as they are.
+/// Adds bytes that are a text to the transcript, as they are.
 fn push_text(text: &mut String, bytes: &[u8]) -> Result<(), AllocError>
     requires { IsUtf8 bytes.now }
     ensures { AddsText result text.old text.new bytes.now }
@@ -139,7 +141,7 @@ fn push_text(text: &mut String, bytes: &[u8]) -> Result<(), AllocError>
     text.push_str(str::from_utf8(bytes).unwrap())
 }
 
-/// A byte that is printed as an escape.
+/// Adds a byte to the transcript as an escape.
 fn push_escape(text: &mut String, byte: u8) -> Result<(), AllocError>
     requires { is_escaped byte ≡ true }
     ensures { AddsText result text.old text.new (escape byte) }
@@ -153,7 +155,7 @@ fn push_escape(text: &mut String, byte: u8) -> Result<(), AllocError>
     }
 }
 
-/// A byte by its two hexadecimal digits.
+/// Adds a byte to the transcript by its two hexadecimal digits.
 fn push_hex(text: &mut String, byte: u8) -> Result<(), AllocError>
     ensures { AddsText result text.old text.new (hex_text byte) }
 {

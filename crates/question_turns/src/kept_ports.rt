@@ -41,7 +41,7 @@ pub(crate) struct KeptPorts<'a, F: Listing + Drop, R: PathRows + Drop> {
 impl<'a, F: Listing + Drop, R: PathRows + Drop> KeptPorts<'a, F, R> {
     ghost use Rattle.question_turns.specs.Ports.{world_of_ports, IsOver};
 
-    /// The ports of the world of these files and settings, about which this keeper is right.
+    /// The ports of the world of these files and settings, about whose index this keeper is right.
     pub(crate) fn new(
         cache: &'a mut EvalCache,
         files: &'a mut Recorder<F>,
@@ -75,7 +75,7 @@ impl<F: Listing + Drop, R: PathRows + Drop> KeptPorts<'_, F, R> {
     ghost use Rattle.question_turns.specs.PortTurns.{RefreshesPorts, TellsPart, TellsTurn, TurnsIndex, TurnsPort, TurnsPorts, TurnsRefresh};
     ghost use Rattle.question_turns.specs.TurnsLeft.{TellsNoRecord, TellsNoRecordYet};
 
-    /// A turn for the question for which this is under way.
+    /// Takes a turn for the question that is under way over these ports.
     pub(crate) fn turn(&mut self, alloc: Global, under_way: UnderWay) -> Result<Turned, FilesFault>
         requires { IsPendingIn F.view R.entries self.old under_way }
         ensures turn { TurnsPorts F.view R.entries result self.old self.new under_way }
@@ -90,7 +90,7 @@ impl<F: Listing + Drop, R: PathRows + Drop> KeptPorts<'_, F, R> {
         }
     }
 
-    /// The first turn for a question about a port.
+    /// Takes the first turn for a question about a port.
     fn begin(&mut self, alloc: Global, question: PortQuestion) -> Result<Turned, FilesFault>
         ensures turn { TurnsPort F.view result self.old question no_spending 0 }
         ensures later { IfOk result (TellsNoRecordYet (world_of_ports F.view self.old) question) }
@@ -103,7 +103,8 @@ impl<F: Listing + Drop, R: PathRows + Drop> KeptPorts<'_, F, R> {
         }
     }
 
-    /// Goes on with the evaluation of a port's makefile, on which so much was spent before this turn.
+    /// Goes on, in a turn for a question about a port, with the evaluation of the port's makefile, on which
+    /// so much was spent before this turn.
     fn evaluate_on(
         &mut self,
         alloc: Global,
@@ -123,8 +124,8 @@ impl<F: Listing + Drop, R: PathRows + Drop> KeptPorts<'_, F, R> {
         Ok(ask.end_turn(alloc, question, before)?)
     }
 
-    /// Goes on with the refresh of the index. Once it is done, the question is answered. So much was spent before this
-    /// turn.
+    /// Goes on, in a turn for a question about the index, with the refresh of the index. Once it is done, the
+    /// question is answered. So much was spent before this turn.
     fn refresh_on(
         &mut self,
         alloc: Global,
@@ -149,7 +150,8 @@ impl<F: Listing + Drop, R: PathRows + Drop> KeptPorts<'_, F, R> {
         }
     }
 
-    /// The reply by the index, which is at hand. Dependencies that may be kept for the next question are.
+    /// The reply to a question about the index, which is at hand. Dependencies that may be kept for the next
+    /// question are.
     fn reply(&mut self, alloc: Global, question: &IndexQuestion) -> Result<Reply, FilesFault>
         requires { IsDone self.old.keeper.now }
         ensures reply { IfMade result (index_reply (world_of_ports F.view self.old) question.now) }
@@ -162,7 +164,8 @@ impl<F: Listing + Drop, R: PathRows + Drop> KeptPorts<'_, F, R> {
         Ok(question.reply(alloc, self.keeper.index())?)
     }
 
-    /// Whether a question is about dependencies, and the rows of the index aren't too large to keep them.
+    /// Whether the dependencies of all ports may be kept with the index: a question is about them, and the
+    /// rows of the index aren't too large.
     fn may_keep_edges(&self, question: &IndexQuestion) -> bool {
         match self.keeper.size_at_hand() {
             Some(size) => question.follows_edges() && size <= MOST_BYTES,
@@ -170,8 +173,9 @@ impl<F: Listing + Drop, R: PathRows + Drop> KeptPorts<'_, F, R> {
         }
     }
 
-    /// Goes on with the refresh of the index, up to the next path on which something is spent, since a path without a
-    /// makefile doesn't end a turn. It is `None` once the refresh is done.
+    /// Goes on, in a turn for a question, with the refresh of the index, up to the next path on which
+    /// something is spent, since a path without a makefile doesn't end a turn. It is `None` once the refresh
+    /// is done.
     fn refresh(&mut self, alloc: Global) -> Result<Option<Spent>, FilesFault>
         ensures refreshes { RefreshesPorts F.view R.entries result self.old self.new }
         ensures fewer { LeavesFewerTurns F.view R.entries result self.old self.new }
@@ -192,7 +196,7 @@ impl<F: Listing + Drop, R: PathRows + Drop> KeptPorts<'_, F, R> {
         }
     }
 
-    /// Takes a turn of the refresh of the index, which is a walk through all its paths.
+    /// Takes a turn of the keeper's refresh of the index, which is a walk through all its paths.
     fn refresh_once(&mut self, alloc: Global) -> Result<Refreshed, FilesFault>
         ensures turn { TurnsRefresh F.view R.entries result self.old self.new }
         ensures leaves { LeavesPorts F.view R.entries self.old self.new }

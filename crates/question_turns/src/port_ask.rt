@@ -1,4 +1,4 @@
-//! The evaluation of a port's makefile, which may take several turns.
+//! The evaluation of a port's makefile for a question about the port, which may take several turns.
 ghost use Rattle.std.specs.Prelude.{◌≡◌, IfOk};
 ghost use Rattle.plain_service.specs.AnswerCosts.{path_asked};
 ghost use Rattle.turn_amounts.specs.Spent.{IsUpFrom};
@@ -24,7 +24,7 @@ use read_trace::Recorder;
 use std::alloc::{AllocError, Global};
 use turn_amounts::{Spent, TURN_UNITS, left_of};
 
-/// The makefile of a port, whose evaluation is under way or at its end.
+/// The makefile of a port about which a question is asked. Its evaluation is under way or at its end.
 #[derive(Drop)]
 pub(crate) struct PortAsk {
     pub(crate) makefile: Name,
@@ -55,8 +55,8 @@ impl PortAsk {
         Ok(Some(PortAsk { makefile, came }))
     }
 
-    /// Goes on with the evaluation until so many units more are spent, or it is at its end. It fails if the files
-    /// fail, or if memory runs out.
+    /// Goes on with the evaluation of a port's makefile until so many units more are spent, or it is at its
+    /// end. It fails if the files fail, or if memory runs out.
     pub(crate) fn turn<F: Files + Drop>(
         self,
         alloc: Global,
@@ -76,7 +76,8 @@ impl PortAsk {
         Ok(PortAsk { makefile, came })
     }
 
-    /// What was spent on it so far. The units aren't more than the evaluation costs.
+    /// What was spent so far on the evaluation of a port's makefile. The units aren't more than the
+    /// evaluation costs.
     pub(crate) fn spent(&self) -> Spent
         ensures is { result ≡ spent_in self.now.came }
         ensures within { SpendsWithinCost result self.now }
@@ -84,8 +85,9 @@ impl PortAsk {
         self.came.spent()
     }
 
-    /// Ends a turn that went on with the evaluation, before which so much was spent. If the turn may still act, the
-    /// evaluation is at its end, and the reply is made of it. A turn ends once a record is made.
+    /// Ends a turn that went on with the evaluation of a port's makefile, before which so much was spent. If
+    /// the turn may still act, the evaluation is at its end, and the reply is made of it. A turn ends once a
+    /// record is made.
     pub(crate) fn end_turn(
         self,
         alloc: Global,
@@ -125,7 +127,7 @@ impl PortAsk {
     }
 }
 
-/// Whether a question takes a record from an evaluation. A turn ends once a record is made.
+/// Whether a question about a port takes a record from the evaluation. A turn ends once a record is made.
 fn takes_record(question: &PortQuestion) -> bool
     ensures { result ≡ is_of_record question.now }
 {

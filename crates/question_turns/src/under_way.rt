@@ -1,4 +1,4 @@
-//! What is under way for a question that isn't answered yet.
+//! What is under way for a question that isn't answered yet, and what was spent on it.
 ghost use Rattle.mk_paths.specs.FilesView.{view_world};
 ghost use Rattle.eval_cache.specs.CacheUse.{UsesCache};
 ghost use Rattle.index_keep.specs.Keeper.{IsKept};
@@ -50,7 +50,7 @@ pub enum Turned {
 }
 
 impl UnderWay {
-    /// A question about a port, before its first turn.
+    /// What is under way for a question about a port before its first turn.
     pub fn of_port(question: PortQuestion) -> UnderWay
         ensures { BeginsQuestion (OfPort question) result }
     {
@@ -60,8 +60,8 @@ impl UnderWay {
         }
     }
 
-    /// A question about the index, before its first turn. No path is under evaluation then: a refresh that another
-    /// question has left must be stopped.
+    /// What is under way for a question about the index before its first turn. No path is under evaluation
+    /// then: a refresh that another question has left must be stopped.
     pub fn of_index(question: IndexQuestion) -> UnderWay
         ensures { BeginsAtRest (OfIndex question) result }
     {

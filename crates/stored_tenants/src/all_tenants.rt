@@ -1,4 +1,4 @@
-//! The tenants, and the plain service over their worlds.
+//! All tenants, whose worlds are stored in databases, and the plain service over their worlds.
 ghost use Rattle.std.specs.Prelude.{◌≡◌, ◌<◌, length, IfSome};
 ghost use Rattle.ports_core.specs.Answers.{AreBytesOf};
 ghost use Rattle.ports_core.specs.Charges.{FitsTurn};
@@ -67,6 +67,8 @@ impl Tenants for StoredTenants {
 
     ghost sharing = { λ w. w.2 };
 
+    /// All stored tenants whose keys a config has, without a file, a row or a job, and the cache that they
+    /// share.
     fn new(alloc: Global, config: &Config) -> Result<StoredTenants, FilesFault> {
         let tenants = open_tenants(alloc, config.keys.len())?;
         let cache = EvalCache::new(alloc, config.parses as usize, config.evals as usize)?;
@@ -81,12 +83,15 @@ impl Tenants for StoredTenants {
         })
     }
 
+    /// A turn of work for a request of one of the stored tenants. Then an index in memory is put away, if it
+    /// is one too many.
     fn work(&mut self, alloc: Global, tenant: usize, request: &Request, close: bool) -> Worked {
         let worked = self.turn(alloc, tenant, request, close);
         self.bound_indexes(alloc, tenant);
         worked
     }
 
+    /// What the job of one of the stored tenants has had so far.
     fn job(&self, tenant: usize) -> Job {
         match self.tenants.get(tenant) {
             Some(tenant) => tenant.had(),
@@ -94,6 +99,7 @@ impl Tenants for StoredTenants {
         }
     }
 
+    /// How often parses and evaluations in the cache of all stored tenants were used.
     fn counts(&self) -> Counts {
         let used = self.cache.counts();
         Counts {
@@ -102,13 +108,15 @@ impl Tenants for StoredTenants {
         }
     }
 
+    /// Limits the steps of each later statement of all stored tenants' databases, or removes the limit.
     fn limit_steps(&mut self, limit: Option<u64>) {
         limit_tenants(&mut self.tenants, limit);
     }
 }
 
 impl StoredTenants {
-    /// A turn of work for a request over a tenant's world, before the indexes in memory are bounded.
+    /// A turn of work for a request over the world of one of the stored tenants, before the indexes in memory
+    /// are bounded.
     fn turn(&mut self, alloc: Global, tenant: usize, request: &Request, close: bool) -> Worked
         requires there { tenant < length self.old.0 }
         requires for_request { IsForRequest request.now (job_in tenant self.old.1) }
@@ -141,7 +149,8 @@ impl StoredTenants {
         }
     }
 
-    /// Puts an index away after this tenant had a turn, if one has to be.
+    /// Bounds the indexes that all tenants have in memory after this tenant had a turn: one is put away, if
+    /// one has to be.
     fn bound_indexes(&mut self, alloc: Global, tenant: usize)
         ensures { self.new ≡ self.old }
     {
@@ -150,8 +159,8 @@ impl StoredTenants {
         }
     }
 
-    /// The tenant whose index has to be put away after this tenant had a turn: its own, if it has too many bytes, or
-    /// that of the one whose index was at hand before those of 8 others.
+    /// The stored tenant whose index has to be put away after this tenant had a turn. It is this tenant, if
+    /// its index has too many bytes, or the one whose index was at hand before those of 8 others.
     fn to_be_put_away(&mut self, tenant: usize) -> Option<usize>
         ensures { self.new ≡ self.old }
     {
@@ -166,7 +175,7 @@ impl StoredTenants {
         }
     }
 
-    /// Puts a tenant's index away.
+    /// Puts away the index that one of the stored tenants has in memory.
     fn put_away(&mut self, alloc: Global, tenant: usize)
         ensures { self.new ≡ self.old }
     {

@@ -1,4 +1,4 @@
-//! A turn for a question over a tenant's files.
+//! Asking a question over a stored tenant's files: one turn of it, while its database lends them.
 use eval_cache::EvalCache;
 use index_keep::Keeper;
 use index_store::IndexStore;
@@ -8,14 +8,15 @@ use question_turns::{Turned, UnderWay};
 use std::alloc::Global;
 use tenant_store::{Asker, TenantStore};
 
-/// A turn for a question: what is under way for it, until the turn is taken, and then what the turn came to.
+/// A turn for a question over a tenant's files: what is under way for it, until the turn is taken, and then
+/// what the turn came to.
 #[derive(Drop)]
 pub(crate) struct Turn {
     pub(crate) under_way: Option<UnderWay>,
     pub(crate) turned: Option<Result<Turned, FilesFault>>,
 }
 
-/// A question over a world about which the keeper is right, and its turn.
+/// A question that is asked over the world of a tenant, about which the keeper is right, and its turn.
 #[derive(Drop)]
 pub(crate) struct Asking<'a> {
     pub(crate) alloc: Global,
@@ -30,7 +31,7 @@ impl Asking<'_> {
     ghost use Rattle.mk_paths.specs.World.{files_in};
     ghost use Rattle.stored_tenants.specs.Prepared.{IsReady, IsAsked};
 
-    /// Takes a turn over the files of a tenant.
+    /// Takes the question's turn over the files of a stored tenant.
     pub(crate) fn ask_tenant(&mut self, store: &mut TenantStore)
         requires { IsReady (files_in store.old) self.old }
         ensures asked { IsAsked (files_in store.old) self.old self.new }
@@ -47,6 +48,7 @@ impl Asker for Asking<'_> {
 
     ghost answered = { λ old view new. IsAsked view.files old new };
 
+    /// Takes the question's turn over the files that a tenant's store lends.
     fn ask<F: Listing>(&mut self, files: &mut F) {
         if let Some(under_way) = self.turn.under_way.take() {
             let turned = under_way.turn(

@@ -1,4 +1,4 @@
-//! One tenant: its world, the keeper of its index, and what is under way for its first request.
+//! One stored tenant: its world, the keeper of its index, and what is under way for its first request.
 ghost use Rattle.std.specs.Prelude.{◌≡◌};
 ghost use Rattle.ports_core.specs.Jobs.{had_by};
 ghost use Rattle.stored_tenants.specs.Kept.{job_of, seen_job};
@@ -29,7 +29,7 @@ pub(crate) struct TenantJob {
 }
 
 impl Tenant {
-    /// What the tenant's first request has had so far: nothing, if there is no job.
+    /// What the stored tenant's first request has had so far: nothing, if there is no job.
     pub(crate) fn had(&self) -> Job
         ensures { result ≡ had_by (job_of self.now) }
     {
@@ -41,7 +41,7 @@ impl Tenant {
 }
 
 impl TenantJob {
-    /// A request before its first turn.
+    /// The job of a tenant for a request before its first turn.
     pub(crate) fn new(under_way: UnderWay) -> TenantJob
         ensures { result ≡ record { turns = 0; under_way = under_way } }
     {
@@ -51,7 +51,7 @@ impl TenantJob {
         }
     }
 
-    /// What the request has had so far.
+    /// What the request of the tenant's job has had so far.
     fn had(&self) -> Job
         ensures { result ≡ (seen_job self.now).had }
     {

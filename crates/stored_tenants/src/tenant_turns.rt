@@ -1,4 +1,4 @@
-//! A request over the world of one tenant.
+//! The turns of one stored tenant: a request over its world, from its first turn to its answer.
 ghost use Rattle.std.specs.Prelude.{◌≡◌, false, Some, None, IfOk, OnOk, OnErr};
 ghost use Rattle.turn_amounts.specs.Spent.{no_spending};
 ghost use Rattle.plain_service.specs.Change.{changed, overfills};
@@ -61,7 +61,7 @@ impl Tenant {
         }
     }
 
-    /// The first turn of a request.
+    /// The first turn of a tenant's request: it is answered at once, or work for its question begins.
     fn begin(
         &mut self,
         alloc: Global,
@@ -101,7 +101,8 @@ impl Tenant {
         }
     }
 
-    /// A turn for a question that takes work. It is the tenant's job once more if it isn't answered.
+    /// A turn of a tenant for a question that takes work. It is the tenant's job once more if it isn't
+    /// answered.
     fn work_on(
         &mut self,
         alloc: Global,
@@ -135,8 +136,8 @@ impl Tenant {
         }
     }
 
-    /// A turn for a question over the tenant's files, and over the index that its keeper has. Nothing is changed, but rows
-    /// of the index may be renewed.
+    /// A turn of a tenant for a question over its files, and over the index that its keeper has. Nothing is
+    /// changed, but rows of the index may be renewed.
     fn turn_over(
         &mut self,
         alloc: Global,
@@ -170,9 +171,9 @@ impl Tenant {
         }
     }
 
-    /// Carries out what a request changes, and gives its reply with its bytes. If a file isn't stored since the
-    /// tenant would have more than it may, the reply is 409. It fails if the store fails, or if memory runs out; then
-    /// nothing has changed.
+    /// Settles a tenant's request: carries out what it changes, and gives its reply with its bytes. If a file
+    /// isn't stored since the tenant would have more than it may, the reply is 409. It fails if the store
+    /// fails, or if memory runs out; then nothing has changed.
     fn settle(
         &mut self,
         alloc: Global,
@@ -247,7 +248,7 @@ impl Tenant {
     }
 }
 
-/// What a turn came to that gave this answer and spent nothing.
+/// What a tenant's turn came to that gave this answer and spent nothing.
 fn free(answer: Answer) -> Worked
     ensures { result ≡ record { reply = Some answer; spent = no_spending } }
 {
@@ -257,7 +258,7 @@ fn free(answer: Answer) -> Worked
     }
 }
 
-/// A reply with its bytes. It fails only if memory runs out.
+/// The answer of a tenant's turn: a reply with its bytes. It fails only if memory runs out.
 fn answer_with_bytes(alloc: Global, reply: Reply, close: bool) -> Result<Answer, AllocError>
     ensures reply { IfOk result (λ answer. answer.reply ≡ reply) }
     ensures bytes { IfOk result (λ answer. AreBytesOf answer.reply close answer.bytes) }

@@ -1,4 +1,4 @@
-//! The tenants, by their numbers.
+//! The list of stored tenants, by their numbers: opened, limited and given turns.
 ghost use Rattle.std.specs.Prelude.{◌≡◌, ◌<◌, [], ◌∷◌, ◌++◌, None, length, option_and_then, slice_get};
 ghost use Rattle.std.specs.Prelude.{IfOk, OnOk, OnErr};
 ghost use Rattle.eval_cache.specs.CacheUse.{UsesCache};
@@ -23,8 +23,8 @@ use tenant_store::TenantStore;
 /// The most contents of files that all tenants together keep in memory. Each has an equal share, of at least one.
 const MOST_CONTENTS: usize = 256;
 
-/// So many tenants without a file, whose indexes have no row yet, and without a job. Each tenant's files and each
-/// index have a database in memory of their own.
+/// Opens so many stored tenants without a file, whose indexes have no row yet, and without a job. Each
+/// tenant's files and each index have a database in memory of their own.
 ///
 /// It fails if one isn't opened, or if memory runs out.
 pub(crate) fn open_tenants(alloc: Global, count: usize) -> Result<Vec<Tenant>, FilesFault>
@@ -42,7 +42,7 @@ pub(crate) fn open_tenants(alloc: Global, count: usize) -> Result<Vec<Tenant>, F
     Ok(tenants)
 }
 
-/// One such tenant, which keeps so many contents in memory.
+/// Opens one stored tenant without a file, a row or a job, which keeps so many contents in memory.
 fn open_tenant(alloc: Global, contents: NonZeroUsize) -> Result<Tenant, FilesFault>
     ensures right { IfOk result IsRightTenant }
     ensures opens { IfOk result (IsIdle opening_world) }
@@ -58,7 +58,7 @@ fn open_tenant(alloc: Global, contents: NonZeroUsize) -> Result<Tenant, FilesFau
     })
 }
 
-/// Adds a tenant after the others. It fails only if memory runs out.
+/// Adds a stored tenant after the others. It fails only if memory runs out.
 fn add_tenant(tenants: &mut Vec<Tenant>, tenant: Tenant) -> Result<(), AllocError>
     ensures { OnOk result (tenants.new.items ≡ tenants.old.items ++ tenant ∷ []) }
 {
@@ -66,8 +66,8 @@ fn add_tenant(tenants: &mut Vec<Tenant>, tenant: Tenant) -> Result<(), AllocErro
     Ok(())
 }
 
-/// Limits the steps of each later statement over all files and indexes, or removes the limit. No world and no job
-/// changes.
+/// Limits the steps of each later statement over the files and indexes of all stored tenants, or removes the
+/// limit. No world and no job changes.
 pub(crate) fn limit_tenants(tenants: &mut [Tenant], limit: Option<u64>)
     ensures count { length tenants.new ≡ length tenants.old }
     ensures right { AreRightTenants tenants.old → AreRightTenants tenants.new }
@@ -80,14 +80,14 @@ pub(crate) fn limit_tenants(tenants: &mut [Tenant], limit: Option<u64>)
     }
 }
 
-/// How many bytes the rows of the index have of the tenant with this number, if the index is at hand.
+/// How many bytes the rows of the index have of the stored tenant with this number, if the index is at hand.
 pub(crate) fn index_size_at(tenants: &[Tenant], number: usize) -> Option<u64>
     ensures { result ≡ option_and_then index_size (slice_get tenants.now number) }
 {
     tenants.get(number)?.keeper.size_at_hand()
 }
 
-/// Puts the index of the tenant with this number away. No world, no job and no row changes.
+/// Puts away the index in memory of the stored tenant with this number. No world, no job and no row changes.
 pub(crate) fn put_away_at(alloc: Global, tenants: &mut [Tenant], number: usize)
     ensures count { length tenants.new ≡ length tenants.old }
     ensures right { AreRightTenants tenants.old → AreRightTenants tenants.new }
@@ -100,7 +100,8 @@ pub(crate) fn put_away_at(alloc: Global, tenants: &mut [Tenant], number: usize)
     }
 }
 
-/// A turn of a request of the tenant with this number, as `take_turn` takes it. No other tenant changes.
+/// A turn of a request of the stored tenant with this number, as `take_turn` takes it. No other tenant
+/// changes.
 pub(crate) fn turn_at(
     alloc: Global,
     tenants: &mut [Tenant],
