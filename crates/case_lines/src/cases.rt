@@ -1,13 +1,13 @@
-//! Cases, taken line by line.
+//! Files of cases, taken line by line: each case is called, judged and counted.
 use crate::answer::{Answer, Trouble};
 use crate::bench::{Bench, Ran};
 use crate::line::Line;
 use std::alloc::{AllocError, Global};
 
-/// What begins a line that continues the one before it.
+/// What begins a line of a case that continues the one before it.
 const INDENT: &str = "    ";
 
-/// The cases of some files, as far as they were taken, and what their calls are about.
+/// The cases of some files, as far as their lines were taken, and the bench that their calls go to.
 #[derive(Drop)]
 pub struct Cases<B: Bench> {
     alloc: Global,
@@ -21,13 +21,13 @@ pub struct Cases<B: Bench> {
     wrong: u64,
 }
 
-/// What the next line may continue.
+/// What the next line of a file of cases may continue.
 #[derive(Drop)]
 enum Open {
     Nothing,
     /// A case, or a line that sets something up; indented lines continue it.
     Call(Call),
-    /// The same up to its block, of which some lines were taken.
+    /// A case, or a line that sets something up, with a block of which some lines were taken.
     Block(Call),
     Script(Script),
 }
@@ -52,7 +52,7 @@ struct Script {
 }
 
 impl<B: Bench> Cases<B> {
-    /// No case yet. The calls of cases go to this bench.
+    /// The cases of files of which no line was taken yet. The calls of cases go to this bench.
     pub fn new(alloc: Global, bench: B) -> Cases<B> {
         Cases {
             alloc,
@@ -65,17 +65,17 @@ impl<B: Bench> Cases<B> {
         }
     }
 
-    /// How many cases there were.
+    /// How many cases were taken from the files.
     pub fn count(&self) -> u64 {
         self.count
     }
 
-    /// How many of them differed, with the lines that are no case.
+    /// How many cases of the files differed, with the lines that are no case.
     pub fn wrong(&self) -> u64 {
         self.wrong
     }
 
-    /// Begins a file: nothing that another file set up is left.
+    /// Begins a file of cases: what the lines of another file set up is dropped.
     pub fn begin_file(&mut self, name: &str) -> Result<(), AllocError> {
         self.bench.clear()?;
         self.file = String::from_str(self.alloc, name)?;
@@ -83,7 +83,7 @@ impl<B: Bench> Cases<B> {
         Ok(())
     }
 
-    /// Ends a file, and gives what is wrong with its last case.
+    /// Ends a file of cases, and says what is wrong with its last case.
     pub fn end_file(&mut self) -> Result<Option<String>, AllocError> {
         match std::mem::replace(&mut self.open, Open::Nothing) {
             Open::Nothing => Ok(None),
@@ -92,7 +92,7 @@ impl<B: Bench> Cases<B> {
         }
     }
 
-    /// Takes the next line, and gives what is wrong with the case that it ends.
+    /// Takes the next line of a file of cases, and says what is wrong with the case that it ends.
     pub fn take(&mut self, text: &str) -> Result<Option<String>, AllocError> {
         self.line = self.line.saturating_add(1);
         match std::mem::replace(&mut self.open, Open::Nothing) {
@@ -110,7 +110,8 @@ impl<B: Bench> Cases<B> {
         }
     }
 
-    /// Begins with a line what it begins; an empty line and a comment begin nothing.
+    /// Begins with a line of a file a case, something to set up, or a script. An empty line and a comment
+    /// begin nothing.
     fn begin(&mut self, text: &str) -> Result<(), AllocError> {
         if text.is_empty() || text.starts_with('#') {
             return Ok(());
@@ -137,7 +138,7 @@ impl<B: Bench> Cases<B> {
         Ok(())
     }
 
-    /// Adds an indented line to a case.
+    /// Adds an indented line to the case that it continues.
     fn take_more(&mut self, mut call: Call, text: &str) -> Result<Option<String>, AllocError> {
         call.words.push(' ')?;
         call.words.push_str(text.trim_start_matches(' '))?;
@@ -145,7 +146,7 @@ impl<B: Bench> Cases<B> {
         Ok(None)
     }
 
-    /// Takes a line of a block, or its end, which may say what the call must give.
+    /// Takes a line of a case's block, or the end of the block. The end may say what the call must give.
     fn take_block(&mut self, mut call: Call, text: &str) -> Result<Option<String>, AllocError> {
         if text == "end" || text.starts_with("end =>") {
             if let Some(wanted) = text.strip_prefix("end") {
@@ -162,7 +163,7 @@ impl<B: Bench> Cases<B> {
         Ok(None)
     }
 
-    /// Does what a line sets up, or makes the call of a case and judges it.
+    /// Settles a case once its lines were all taken: sets up what they say, or makes its call and judges it.
     fn settle(&mut self, call: Call) -> Result<Option<String>, AllocError> {
         let line = call.line;
         match self.answer(call) {
@@ -172,6 +173,7 @@ impl<B: Bench> Cases<B> {
         }
     }
 
+    /// Reads the lines of a case, and sets up what they say, or makes its call and judges the answer.
     fn answer(&mut self, call: Call) -> Result<Option<String>, Trouble> {
         let mut line = Line::read(self.alloc, call.words.as_str())?;
         if let Some(block) = &call.block {
@@ -187,7 +189,8 @@ impl<B: Bench> Cases<B> {
         self.judge(call.line, answer.whole()?, wanted.as_str())
     }
 
-    /// Takes a line of a script: of its input, or of what must be printed, or its end.
+    /// Takes a line of a case that is a script: a line of its input, a line of what must be printed, or its
+    /// end.
     fn take_script(
         &mut self,
         mut script: Script,
@@ -206,8 +209,8 @@ impl<B: Bench> Cases<B> {
         Ok(None)
     }
 
-    /// Runs a script whose last line is this one: `status N`, and `says TEXT` if the program says
-    /// something on standard error.
+    /// Runs a case that is a script, whose last line is this one: `status N`, and `says TEXT` if the program
+    /// says something on standard error.
     fn run(&mut self, script: &Script, last: &str) -> Result<Option<String>, AllocError> {
         let judged = match self
             .bench
@@ -223,6 +226,7 @@ impl<B: Bench> Cases<B> {
         }
     }
 
+    /// Judges a case that is a script by its run: what the program printed, its status, and what it said.
     fn judge_run(
         &mut self,
         script: &Script,
@@ -238,7 +242,7 @@ impl<B: Bench> Cases<B> {
         self.judge(self.line, given.whole()?, wanted.whole()?)
     }
 
-    /// Counts a case, and says where it differs.
+    /// Counts a case, and says where its answer differs from what the line wants.
     fn judge(&mut self, line: u64, given: &str, wanted: &str) -> Result<Option<String>, Trouble> {
         self.count = self.count.saturating_add(1);
         if given == wanted {
@@ -249,7 +253,7 @@ impl<B: Bench> Cases<B> {
         Ok(Some(format!(in self.alloc; "{file}:{line}: {given}, not {wanted}")?))
     }
 
-    /// Counts a line that is no case, and says which one it is.
+    /// Counts a line of a file that is no case, and says which line it is.
     fn no_case(&mut self, line: u64) -> Result<Option<String>, AllocError> {
         self.wrong = self.wrong.saturating_add(1);
         let file = self.file.as_str();
@@ -258,6 +262,8 @@ impl<B: Bench> Cases<B> {
 }
 
 impl Script {
+    /// A case that is a script, of which the first line was taken. The words are those of the program's
+    /// command line.
     fn new(alloc: Global, words: &str) -> Result<Script, AllocError> {
         Ok(Script {
             words: String::from_str(alloc, words)?,
@@ -266,7 +272,7 @@ impl Script {
         })
     }
 
-    /// Adds a line to what must be printed, or to the input before that begins.
+    /// Adds a line to what the script of a case must print, or to its input before that begins.
     fn add(&mut self, text: &str) -> Result<(), AllocError> {
         let lines = match &mut self.printed {
             Some(printed) => printed,
@@ -277,8 +283,8 @@ impl Script {
     }
 }
 
-/// A run of the program, in the words of a case: what it printed, its status, and what it said, if it
-/// said something.
+/// A run of the program, in the words of a case: what it printed, its status, and what it said, if it said
+/// something.
 fn answer_of_run(alloc: Global, ran: &Ran) -> Answer {
     let mut answer = Answer::new(alloc);
     answer.text(ran.printed.as_slice());

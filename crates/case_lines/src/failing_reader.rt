@@ -1,4 +1,4 @@
-//! An input that fails after so many reads.
+//! An input for cases that fails after so many reads: a failing reader.
 ghost use Rattle.std.specs.Prelude.{◌≡◌, ◌+◌, IfOk, IfErr, OnOk, OnErr, Some, length};
 ghost use Rattle.std.specs.Io.{ReadsAtMost};
 ghost use Rattle.std.specs.Io.KnownBytes.{ReadConsumes};
@@ -7,10 +7,11 @@ ghost use Rattle.case_lines.specs.FailingStreams.{given_at_once};
 
 use std::io::{self, ErrorKind, Read};
 
-/// The most bytes that one read gives.
+/// The most bytes that one read of a failing reader gives.
 const MOST_AT_ONCE: usize = 5;
 
-/// An input that gives at most five bytes at a read, and fails after so many reads.
+/// A failing reader, as an input of cases: it gives at most five bytes at a read, and fails after so many
+/// reads.
 #[derive(Drop)]
 pub struct FailingReader<'a> {
     /// The bytes that it still has.
@@ -22,8 +23,8 @@ pub struct FailingReader<'a> {
 impl Read for FailingReader<'_> {
     ghost remaining = { λ reader. Some reader.rest.now };
 
-    /// Gives at most five of the bytes that are left, and none at their end. If no read is left, it fails,
-    /// always with the same error, and takes nothing.
+    /// A read of a failing reader gives at most five of the bytes that are left, and none at their end. If no
+    /// read is left, it fails, always with the same error, and takes nothing.
     fn read(&mut self, buf: &mut [u8]) -> io::Result<usize>
         ensures bound { ReadsAtMost result buf.new }
         ensures bytes { ReadConsumes (Some self.old.rest.now)

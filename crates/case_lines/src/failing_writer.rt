@@ -1,4 +1,4 @@
-//! An output that fails after so many writes.
+//! An output for cases that fails after so many writes: a failing writer.
 ghost use Rattle.std.specs.Prelude.{◌≡◌, ◌+◌, IfOk, IfErr, OnOk, OnErr, IsOk, Some, length, min};
 ghost use Rattle.std.specs.Io.{WritesAtMost};
 ghost use Rattle.std.specs.Io.KnownBytes.{WriteAppends, Keeps};
@@ -7,7 +7,7 @@ ghost use Rattle.case_lines.specs.FailingStreams.{write_fault};
 
 use std::io::{self, ErrorKind, Write};
 
-/// An output that takes one byte at a write, and fails after so many writes.
+/// A failing writer, as an output of cases: it takes one byte at a write, and fails after so many writes.
 #[derive(Drop)]
 pub struct FailingWriter {
     /// The bytes that it has taken.
@@ -19,8 +19,8 @@ pub struct FailingWriter {
 impl Write for FailingWriter {
     ghost contents = { λ writer. Some writer.taken.items };
 
-    /// Takes the first byte, if there is one. It fails if no write is left, or if memory runs
-    /// out; then nothing was taken.
+    /// A write of a failing writer takes the first byte, if there is one. It fails if no write is left, or if
+    /// memory runs out; then nothing was taken.
     fn write(&mut self, buf: &[u8]) -> io::Result<usize>
         ensures bound { WritesAtMost result buf.now }
         ensures bytes { WriteAppends (Some self.old.taken.items)
@@ -42,6 +42,7 @@ impl Write for FailingWriter {
         Ok(1)
     }
 
+    /// A failing writer holds nothing back, so there is nothing to flush.
     fn flush(&mut self) -> io::Result<()>
         ensures bytes { Keeps (Some self.old.taken.items) (Some self.new.taken.items) }
         ensures ok { IsOk result }

@@ -1,11 +1,11 @@
-//! Lines of cases, read.
+//! Lines of cases as they are read: cut into words, numbers and quoted texts, up to `=>` and after it.
 use crate::answer::{Answer, Trouble};
 use std::alloc::Global;
 
-/// The most copies of a part that a text may ask for.
+/// The most copies of a part that a text in a line of a case may ask for.
 const MOST_COPIES: usize = 2_000_000;
 
-/// A line: what is called, what that is given, and what it must give.
+/// A line of a case: what is called, what that is given, and what it must give.
 #[derive(Drop)]
 pub struct Line {
     /// The words before `=>`, with a blank between two of them.
@@ -17,8 +17,8 @@ pub struct Line {
 }
 
 impl Line {
-    /// Reads a line. The error is `NoCase` if the line is in no form of a case, and
-    /// `Memory` if memory runs out.
+    /// Reads a line of a case. The error is `NoCase` if the line is in no form of a case, and `Memory` if
+    /// memory runs out.
     pub fn read(alloc: Global, text: &str) -> Result<Line, Trouble> {
         let mut line = Line {
             call: String::new(alloc),
@@ -42,6 +42,8 @@ impl Line {
         Ok(line)
     }
 
+    /// Takes a token before `=>` into a line of a case: a word belongs to its call, a text is given to the
+    /// call.
     fn take(&mut self, token: Token) -> Result<(), Trouble> {
         match token {
             Token::Text(text) => self.given.push(text)?,
@@ -56,13 +58,13 @@ impl Line {
     }
 }
 
-/// The bytes as a text. The error is `NoCase` if they are no UTF-8.
+/// The bytes that a line of a case gives, as a text. The error is `NoCase` if they are no UTF-8.
 pub fn as_text(bytes: &[u8]) -> Result<&str, Trouble> {
     str::from_utf8(bytes).map_err(|_| Trouble::NoCase)
 }
 
-/// The one text that a call is given. The error is `NoCase` if it isn't given just
-/// one, or if that is no UTF-8.
+/// The one text that a line of a case gives to its call. The error is `NoCase` if it isn't given just one, or
+/// if that is no UTF-8.
 pub fn one_text(given: &[Vec<u8>]) -> Result<&str, Trouble> {
     match given {
         [text] => as_text(text),
@@ -70,12 +72,13 @@ pub fn one_text(given: &[Vec<u8>]) -> Result<&str, Trouble> {
     }
 }
 
-/// The number that the bytes write. The error is `NoCase` if they write no number of 64 bits.
+/// The number that a line of a case gives, written in these bytes. The error is `NoCase` if they write no
+/// number of 64 bits.
 pub fn as_number(bytes: &[u8]) -> Result<u64, Trouble> {
     as_text(bytes)?.parse::<u64>().map_err(|_| Trouble::NoCase)
 }
 
-/// Adds to what is wanted.
+/// Adds a token after `=>` to what a line of a case wants.
 fn want(wanted: &mut Answer, token: Token) -> Result<(), Trouble> {
     match token {
         Token::Word(word) => wanted.word(as_text(&word)?),
@@ -84,7 +87,7 @@ fn want(wanted: &mut Answer, token: Token) -> Result<(), Trouble> {
     Ok(())
 }
 
-/// A part of a line between two blanks.
+/// A token of a case's line: a part between two blanks.
 #[derive(Drop)]
 enum Token {
     /// What is without quotes, and begins with no digit or follows `=>`.
@@ -94,6 +97,7 @@ enum Token {
 }
 
 impl Token {
+    /// Whether this token of a case's line is `=>`.
     fn is_arrow(&self) -> bool {
         match self {
             Token::Word(word) => word.as_slice() == b"=>".as_slice(),
@@ -102,7 +106,7 @@ impl Token {
     }
 }
 
-/// Where in a line a cutter is.
+/// Where in a line of a case a cutter is.
 #[derive(Clone, Copy)]
 enum Place {
     /// Between two tokens.
@@ -123,7 +127,7 @@ enum Place {
     Joined,
 }
 
-/// Cuts a line into tokens, byte by byte.
+/// Cuts a line of a case into tokens, byte by byte.
 #[derive(Drop)]
 struct Cutter {
     alloc: Global,
@@ -135,7 +139,7 @@ struct Cutter {
     tokens: Vec<Token>,
 }
 
-/// The tokens of a line.
+/// The tokens of a line of a case.
 fn tokens(alloc: Global, line: &str) -> Result<Vec<Token>, Trouble> {
     let mut cutter = Cutter {
         alloc,
@@ -155,7 +159,7 @@ fn tokens(alloc: Global, line: &str) -> Result<Vec<Token>, Trouble> {
 }
 
 impl Cutter {
-    /// Takes a byte, and gives the place after it.
+    /// Takes a byte of a case's line into the cutter, and gives the place after it.
     fn behind(&mut self, byte: u8) -> Result<Place, Trouble> {
         match self.place {
             Place::Between => self.begin(byte),
@@ -170,6 +174,8 @@ impl Cutter {
         }
     }
 
+    /// Takes a byte between two tokens of a case's line: a blank, the quote that begins a text, or the first
+    /// byte of a word.
     fn begin(&mut self, byte: u8) -> Result<Place, Trouble> {
         match byte {
             b' ' => Ok(Place::Between),
@@ -181,6 +187,7 @@ impl Cutter {
         }
     }
 
+    /// Takes a byte in a word of a case's line. A blank ends the word, which becomes a token.
     fn word(&mut self, byte: u8) -> Result<Place, Trouble> {
         if byte != b' ' {
             self.part.push(byte)?;
@@ -197,11 +204,12 @@ impl Cutter {
         Ok(Place::Between)
     }
 
-    /// Whether the arrow was there already. After it, numbers are words.
+    /// Whether the cutter has met `=>` in a line of a case. After it, numbers are words.
     fn is_wanted(&self) -> bool {
         self.tokens.iter().any(|token| token.is_arrow())
     }
 
+    /// Takes a byte in a quoted text of a case's line: its closing quote, a backslash, or a byte of the text.
     fn quoted(&mut self, byte: u8) -> Result<Place, Trouble> {
         match byte {
             b'"' => Ok(Place::Closed),
@@ -213,6 +221,7 @@ impl Cutter {
         }
     }
 
+    /// Takes the byte after a backslash in a quoted text of a case's line.
     fn escape(&mut self, byte: u8) -> Result<Place, Trouble> {
         let meant = match byte {
             b'"' | b'\\' => byte,
@@ -226,6 +235,8 @@ impl Cutter {
         Ok(Place::Quoted)
     }
 
+    /// Takes a hexadecimal digit after `\x` in a quoted text of a case's line. The second one ends the
+    /// escape.
     fn hex(&mut self, high: Option<u8>, byte: u8) -> Result<Place, Trouble> {
         let Some(digit) = hex_value(byte) else {
             return Err(Trouble::NoCase);
@@ -237,6 +248,7 @@ impl Cutter {
         Ok(Place::Quoted)
     }
 
+    /// Takes the byte after a closing quote in a line of a case: `*`, `+` or a blank.
     fn closed(&mut self, byte: u8) -> Result<Place, Trouble> {
         match byte {
             b'*' => Ok(Place::Copies(0)),
@@ -245,6 +257,8 @@ impl Cutter {
         }
     }
 
+    /// Takes a byte of the number of copies of a quoted text in a line of a case, or the `+` or blank after
+    /// it.
     fn copies(&mut self, copies: usize, byte: u8) -> Result<Place, Trouble> {
         match byte {
             b'0'..=b'9' => {
@@ -265,7 +279,7 @@ impl Cutter {
         }
     }
 
-    /// Adds so many copies of the part to the text.
+    /// Adds so many copies of the quoted part to the text that the cutter makes from a line of a case.
     fn join(&mut self, copies: usize) -> Result<(), Trouble> {
         if copies > MOST_COPIES {
             return Err(Trouble::NoCase);
@@ -277,12 +291,13 @@ impl Cutter {
         Ok(())
     }
 
+    /// The word or quoted part that the cutter has of a case's line. A new, empty part begins.
     fn taken_part(&mut self) -> Vec<u8> {
         std::mem::replace(&mut self.part, Vec::new(self.alloc))
     }
 }
 
-/// What a hexadecimal digit is worth.
+/// What a hexadecimal digit in an escape of a case's line is worth.
 fn hex_value(digit: u8) -> Option<u8> {
     match digit {
         b'0'..=b'9' => Some(digit - b'0'),

@@ -1,4 +1,4 @@
-//! Real refusals, for cases of what must pass them on.
+//! Real refusals of memory and of a statement, for cases of what must pass them on.
 use crate::answer::Trouble;
 use mk_paths::FilesFault;
 use refusals::OutOfMemory;
@@ -6,7 +6,7 @@ use sql_facts::Sqlite;
 use sqlite::{Connection, Error};
 use std::alloc::Global;
 
-/// A refusal of memory, by a growth that can't be had. It is `NoCase` if it can be had.
+/// A real refusal of memory for cases, by a growth that can't be had. It is `NoCase` if it can be had.
 pub fn no_memory(alloc: Global) -> Result<OutOfMemory, Trouble> {
     match Vec::<u8>::with_capacity(alloc, usize::MAX) {
         Ok(_had) => Err(Trouble::NoCase),
@@ -14,7 +14,8 @@ pub fn no_memory(alloc: Global) -> Result<OutOfMemory, Trouble> {
     }
 }
 
-/// The fault of files whose database refuses a statement that can't run.
+/// A real refusal of a statement for cases: the fault of files whose database refuses a statement that can't
+/// run.
 pub fn no_statement(alloc: Global) -> FilesFault {
     match run_no_statement(alloc) {
         Ok(()) => FilesFault::of_statement::<Sqlite>(&Error::InvalidQuery),
@@ -22,6 +23,7 @@ pub fn no_statement(alloc: Global) -> FilesFault {
     }
 }
 
+/// Runs a statement in a database that refuses it, for cases that need a real refusal.
 fn run_no_statement(alloc: Global) -> Result<(), Error> {
     let mut conn = Connection::open_in_memory(alloc)?;
     conn.execute_batch("no statement")

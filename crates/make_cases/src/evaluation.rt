@@ -1,4 +1,4 @@
-//! Makefiles evaluated, and values of their variables.
+//! Cases of evaluation: makefiles evaluated at once and by turns, and values of their variables.
 use crate::failing_files::{Asking, FailingFiles, failing_answer};
 use crate::faults::fault_answer;
 use crate::files::given_name;
@@ -17,7 +17,7 @@ use std::mem;
 /// The file that `makefile`, `cost`, `value`, `stored` and `flavored` are about.
 const MAKEFILE: &str = "/a/b";
 
-/// How a makefile is evaluated.
+/// How a makefile is evaluated in a case.
 #[derive(Clone, Copy, Debug)]
 pub enum Way {
     /// At once.
@@ -29,7 +29,7 @@ pub enum Way {
 /// The turns by which each makefile of a case is evaluated too.
 const TURNS: [u64; 4] = [1, 2, 7, 1000];
 
-/// What a call about an evaluation gives. If an evaluation by turns gives something else, or asks other
+/// What a call of a case of evaluation gives. If an evaluation by turns gives something else, or asks other
 /// questions, that is said after it.
 pub fn answer_each_way(
     alloc: Global,
@@ -50,6 +50,7 @@ pub fn answer_each_way(
     Ok(answer)
 }
 
+/// What a call of a case of evaluation gives if the makefile is evaluated in this way: at once, or by turns.
 fn answer_by(
     alloc: Global,
     world: &mut World,
@@ -68,7 +69,7 @@ fn answer_by(
     }
 }
 
-/// Whether two evaluations asked the same questions and got the same answers.
+/// Whether two evaluations of a case asked the same questions and got the same answers.
 fn asks_same(one: &Trace, other: &Trace) -> bool {
     let (one, other) = (one.questions(), other.questions());
     if one.len() != other.len() {
@@ -82,10 +83,12 @@ fn asks_same(one: &Trace, other: &Trace) -> bool {
     true
 }
 
+/// Whether two questions of a case's evaluations ask for the same file and got the same answer.
 fn is_same_question(one: &Question, other: &Question) -> bool {
     one.name().as_str() == other.name().as_str() && is_same_reply(one.reply(), other.reply())
 }
 
+/// Whether two answers to questions of a case's evaluations are the same.
 fn is_same_reply(one: &Reply, other: &Reply) -> bool {
     match (one, other) {
         (Reply::Presence(one), Reply::Presence(other)) => *one == *other,
@@ -97,12 +100,14 @@ fn is_same_reply(one: &Reply, other: &Reply) -> bool {
     }
 }
 
-/// `cost`: what the makefile costs, or its fault with what it cost up to there.
+/// The call `cost` of a case of evaluation: what the makefile costs, or its fault with what it cost up to
+/// there.
 fn cost(alloc: Global, world: &mut World) -> Result<Answer, Trouble> {
     let outcome = evaluated(alloc, world)?;
     cost_answer(alloc, outcome)
 }
 
+/// Shows in a case of evaluation what the makefile cost, or its fault with what it cost up to there.
 fn cost_answer(alloc: Global, outcome: Result<Evaluated, Failed>) -> Result<Answer, Trouble> {
     match outcome {
         Ok(evaluated) => {
@@ -114,8 +119,9 @@ fn cost_answer(alloc: Global, outcome: Result<Evaluated, Failed>) -> Result<Answ
     }
 }
 
-/// `evaluate FILE NAME`: what this makefile describes, what it costs, and the value of a variable after it
-/// with its cost; or the fault of the makefile or of the value.
+/// The call `evaluate FILE NAME` of a case of evaluation: what this makefile describes, what it costs, and
+/// the value of a variable after it with its cost. If the makefile or the value has a fault, the fault is the
+/// answer.
 fn evaluated_whole(alloc: Global, world: &mut World, given: &[Vec<u8>]) -> Result<Answer, Trouble> {
     let [file, variable] = given else {
         return Err(Trouble::NoCase);
@@ -131,8 +137,8 @@ fn evaluated_whole(alloc: Global, world: &mut World, given: &[Vec<u8>]) -> Resul
     }
 }
 
-/// Adds the value of a variable to the answer, and what that cost. If the value has a fault,
-/// that alone is the answer.
+/// Adds to the answer of a case of evaluation the value of a variable, and what that cost. If the value has a
+/// fault, that alone is the answer.
 fn add_value(
     alloc: Global,
     mut answer: Answer,
@@ -155,12 +161,13 @@ fn add_value(
     }
 }
 
-/// Adds a cost after its word.
+/// Adds to the answer of a case what an evaluation cost, after the word `cost`.
 pub fn add_cost(answer: &mut Answer, cost: u64) {
     answer.word("cost");
     answer.number(cost);
 }
 
+/// The word for what a makefile describes, as a case of evaluation shows it.
 fn kind_word(kind: Kind) -> &'static str {
     match kind {
         Kind::Port => "Port",
@@ -169,7 +176,8 @@ fn kind_word(kind: Kind) -> &'static str {
     }
 }
 
-/// `flavored NAME FLAVOR..`: the text of a variable that the makefile leaves with these flavors given.
+/// The call `flavored NAME FLAVOR..` of a case of evaluation: the text of a variable that the makefile leaves
+/// with these flavors given.
 fn flavored(alloc: Global, world: &mut World, given: &[Vec<u8>]) -> Result<Answer, Trouble> {
     let [_, flavors @ ..] = given else {
         return Err(Trouble::NoCase);
@@ -182,6 +190,7 @@ fn flavored(alloc: Global, world: &mut World, given: &[Vec<u8>]) -> Result<Answe
     }
 }
 
+/// The flavors that a case of evaluation gives, as texts.
 fn texts(alloc: Global, given: &[Vec<u8>]) -> Result<Vec<String>, Trouble> {
     let mut texts = Vec::new(alloc);
     for bytes in given {
@@ -190,7 +199,8 @@ fn texts(alloc: Global, given: &[Vec<u8>]) -> Result<Vec<String>, Trouble> {
     Ok(texts)
 }
 
-/// `stored NAME`: the text of a variable that the makefile leaves, unexpanded.
+/// The call `stored NAME` of a case of evaluation: the text of a variable that the makefile leaves,
+/// unexpanded.
 fn stored(alloc: Global, world: &mut World, given: &[Vec<u8>]) -> Result<Answer, Trouble> {
     match evaluated(alloc, world)? {
         Ok(evaluated) => text_of_variable(alloc, &evaluated.env, given),
@@ -198,8 +208,8 @@ fn stored(alloc: Global, world: &mut World, given: &[Vec<u8>]) -> Result<Answer,
     }
 }
 
-/// `value NAME`: the value of a variable after the makefile, with its cost; `undefined`; or its
-/// fault, or the makefile's.
+/// The call `value NAME` of a case of evaluation: the value of a variable after the makefile, with its cost;
+/// `undefined`; or its fault, or the makefile's.
 fn value_of(alloc: Global, world: &mut World, given: &[Vec<u8>]) -> Result<Answer, Trouble> {
     let variable = one_text(given)?;
     let makefile = makefile(alloc)?;
@@ -209,16 +219,17 @@ fn value_of(alloc: Global, world: &mut World, given: &[Vec<u8>]) -> Result<Answe
     }
 }
 
-/// The name of the makefile.
+/// The name of the makefile that cases of evaluation are about.
 pub fn makefile(alloc: Global) -> Result<Name, Trouble> {
     given_name(alloc, MAKEFILE.as_bytes())
 }
 
-/// What the makefile leaves, or its fault.
+/// What the makefile of a case of evaluation leaves, or its fault.
 pub fn evaluated(alloc: Global, world: &mut World) -> Result<Result<Evaluated, Failed>, Trouble> {
     evaluated_file(alloc, world, &makefile(alloc)?, None)
 }
 
+/// What a makefile leaves in a case of evaluation, with these flavors or with none given, or its fault.
 fn evaluated_file(
     alloc: Global,
     world: &mut World,
@@ -232,7 +243,7 @@ fn evaluated_file(
     outcome.ok_or(Trouble::NoCase)
 }
 
-/// What an evaluation leaves, or its fault. `None` if its turns have no end.
+/// What an evaluation leaves in a case, at once or by turns, or its fault. `None` if its turns have no end.
 fn outcome_by<F: Files + Drop>(
     alloc: Global,
     files: &mut Recorder<F>,
@@ -255,8 +266,8 @@ fn outcome_by<F: Files + Drop>(
     }
 }
 
-/// `cost failing`: what the makefile costs in files that fail at each call in turn, at once and by turns of one unit:
-/// how many calls there are, and the cost or the fault.
+/// The call `cost failing` of a case of evaluation: what the makefile costs in files that fail at each call
+/// in turn, at once and by turns of one unit. It gives how many calls there are, and the cost or the fault.
 pub fn cost_failing(alloc: Global, world: &mut World) -> Result<Answer, Trouble> {
     let name = makefile(alloc)?;
     let World {
@@ -279,7 +290,7 @@ pub fn cost_failing(alloc: Global, world: &mut World) -> Result<Answer, Trouble>
     Ok(answer)
 }
 
-/// A makefile that is evaluated.
+/// A makefile that a case evaluates over failing files.
 #[derive(Drop)]
 struct Evaluating<'a> {
     settings: &'a Settings,
@@ -288,6 +299,7 @@ struct Evaluating<'a> {
 }
 
 impl Asking for Evaluating<'_> {
+    /// What the evaluation of the makefile costs over failing files in a case, or its fault.
     fn ask(
         &mut self,
         alloc: Global,
@@ -302,7 +314,8 @@ impl Asking for Evaluating<'_> {
     }
 }
 
-/// `turns UNITS`: how many turns of so many units it takes to evaluate the makefile.
+/// The call `turns UNITS` of a case of evaluation: how many turns of so many units it takes to evaluate the
+/// makefile.
 pub fn turns(alloc: Global, world: &mut World, given: &[Vec<u8>]) -> Result<Answer, Trouble> {
     let [units] = given else {
         return Err(Trouble::NoCase);
@@ -318,8 +331,8 @@ pub fn turns(alloc: Global, world: &mut World, given: &[Vec<u8>]) -> Result<Answ
     Ok(answer)
 }
 
-/// An evaluation by turns of so many units, and how many there are. Each turn spends a unit, and the last one
-/// ends it. `None` if it has no end.
+/// An evaluation of a case by turns of so many units, and how many there are. Each turn spends a unit, and
+/// the last one ends it. `None` if it has no end.
 fn by_turns<F: Files + Drop>(
     alloc: Global,
     files: &mut Recorder<F>,
@@ -339,7 +352,7 @@ fn by_turns<F: Files + Drop>(
     Ok(None)
 }
 
-/// A fault, with what was spent up to there.
+/// The fault of an evaluation as the answer of a case, with what was spent up to there.
 pub fn failure(alloc: Global, failed: &Failed) -> Result<Answer, Trouble> {
     let mut answer = fault_answer(alloc, &failed.fault)?;
     add_cost(&mut answer, failed.cost);

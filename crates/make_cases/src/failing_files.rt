@@ -1,4 +1,4 @@
-//! Files of which one call fails, and what is asked of them.
+//! Failing files, for cases of makefiles, ports and requests: files in memory that fail after so many calls.
 ghost use Rattle.std.specs.Prelude.{◌≡◌, ◌+◌, IfErr, OnOk, OnErr};
 ghost use Rattle.mk_paths.specs.FilesView.{Fails};
 ghost use Rattle.make_cases.specs.FailingFiles.{view_of};
@@ -8,10 +8,10 @@ use mk_files::{Content, Files, Listing, MemoryFiles};
 use mk_paths::{FilesFault, Name, Names};
 use std::alloc::Global;
 
-/// More calls than a case makes.
+/// More calls of failing files than a case makes.
 const MOST_CALLS: u64 = 1000;
 
-/// Files in memory that answer so many calls, and fail at each one after them.
+/// Failing files for cases: files in memory that answer so many calls, and fail at each one after them.
 #[derive(Drop)]
 pub struct FailingFiles<'a> {
     files: &'a mut MemoryFiles,
@@ -23,7 +23,7 @@ pub struct FailingFiles<'a> {
 }
 
 impl FailingFiles<'_> {
-    /// Counts a call. If none is left, it fails.
+    /// Counts a call of failing files in a case. If none is left, it fails.
     fn call(&mut self) -> Result<(), FilesFault>
         ensures called { OnOk result (view_of self.new ≡ view_of self.old) }
         ensures calls { OnOk result (self.old.calls ≡ self.new.calls + 1) }
@@ -37,7 +37,7 @@ impl FailingFiles<'_> {
         Ok(())
     }
 
-    /// Counts one more failure, with this fault.
+    /// Counts one more failure of failing files in a case, with this fault.
     fn failed(&mut self, fault: FilesFault) -> FilesFault
         ensures counted { Fails (view_of self.old) (view_of self.new) }
         ensures fault { result ≡ fault }
@@ -54,6 +54,7 @@ impl Names for FailingFiles<'_> {
 
     ghost fails_with = { IsAnyFault };
 
+    /// Whether failing files have a file of this name. If no call is left, they fail.
     fn has(&mut self, name: &Name) -> Result<bool, FilesFault> {
         self.call()?;
         match self.files.has(name) {
@@ -64,6 +65,7 @@ impl Names for FailingFiles<'_> {
 }
 
 impl Files for FailingFiles<'_> {
+    /// The content that failing files have under this name. If no call is left, they fail.
     fn read(&mut self, name: &Name) -> Result<Option<Content>, FilesFault> {
         self.call()?;
         match self.files.read(name) {
@@ -74,6 +76,7 @@ impl Files for FailingFiles<'_> {
 }
 
 impl Listing for FailingFiles<'_> {
+    /// The names of all files that failing files have. If no call is left, they fail.
     fn names(&mut self, alloc: Global) -> Result<Vec<String>, FilesFault> {
         self.call()?;
         match self.files.names(alloc) {
@@ -83,9 +86,9 @@ impl Listing for FailingFiles<'_> {
     }
 }
 
-/// What is asked of files that may fail.
+/// What a case asks of failing files.
 pub trait Asking {
-    /// What they give. The outer error is the fault of the files.
+    /// What failing files give to what a case asks. The outer error is the fault of the files.
     fn ask(
         &mut self,
         alloc: Global,
@@ -93,10 +96,12 @@ pub trait Asking {
     ) -> Result<Result<Answer, Trouble>, FilesFault>;
 }
 
-/// What is given over files that fail at their first call, then at their second one, and so on, until they fail at none:
-/// how many calls they answer then, and the answer. Before that comes `wrong` with the number of calls that were answered,
-/// if the fault wasn't that of the files, or if they were called again after it. Each call fails with either fault in
-/// turn. If that of memory makes another answer, that follows after `or`.
+/// What a case gives over failing files: files that fail at their first call, then at their second one, and
+/// so on, until they fail at none. It says how many calls they answer then, and the answer.
+///
+/// Before that comes `wrong` with the number of calls that were answered, if the fault wasn't that of the
+/// files, or if they were called again after it. Each call fails with either fault in turn. If that of memory
+/// makes another answer, that follows after `or`.
 pub fn failing_answer<A: Asking>(
     alloc: Global,
     files: &mut MemoryFiles,
@@ -111,7 +116,7 @@ pub fn failing_answer<A: Asking>(
     Ok(answer)
 }
 
-/// The same with one fault.
+/// What a case gives over failing files whose calls fail with this one fault, for `failing_answer`.
 fn answer_after<A: Asking>(
     alloc: Global,
     files: &mut MemoryFiles,

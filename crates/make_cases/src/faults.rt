@@ -1,9 +1,10 @@
-//! Faults and budgets.
+//! Cases of the faults of makefiles, and of budgets.
 use case_lines::{Answer, Trouble, as_number, as_text};
 use mk_base::{Budget, Fault, FaultKind, PureStop, Stop};
 use std::alloc::Global;
 
-/// `numbers of kinds`: each kind of fault, with the number by which replies name it.
+/// The call `numbers of kinds` of a case of faults: each kind of fault, with the number by which replies name
+/// it.
 pub fn numbers_of_kinds(alloc: Global) -> Answer {
     let mut answer = Answer::new(alloc);
     for kind in [
@@ -32,8 +33,8 @@ pub fn numbers_of_kinds(alloc: Global) -> Answer {
     answer
 }
 
-/// `budget LIMIT pays N asks M`: pays so many units and asks so many questions. Then it gives the first
-/// fault of each, if any, and what was spent and asked.
+/// The call `budget LIMIT pays N asks M` of a case of budgets: pays so many units and asks so many questions.
+/// Then it gives the first fault of each, if any, and what was spent and asked.
 pub fn budget(alloc: Global, given: &[Vec<u8>]) -> Result<Answer, Trouble> {
     let [limit, units, questions] = given else {
         return Err(Trouble::NoCase);
@@ -55,6 +56,7 @@ pub fn budget(alloc: Global, given: &[Vec<u8>]) -> Result<Answer, Trouble> {
     Ok(answer)
 }
 
+/// Adds the kind of a budget's fault to the answer of a case, or `ok` if there is none.
 fn add_fault_kind(answer: &mut Answer, kind: Option<FaultKind>) {
     match kind {
         Some(kind) => answer.kind(&kind),
@@ -62,7 +64,8 @@ fn add_fault_kind(answer: &mut Answer, kind: Option<FaultKind>) {
     }
 }
 
-/// `blame NAME LINE`: a fault that arose there, as it reports its kind, name and line.
+/// The call `blame NAME LINE` of a case of faults: a fault at this line of this file, as it reports its kind,
+/// name and line.
 pub fn blamed(alloc: Global, given: &[Vec<u8>]) -> Result<Answer, Trouble> {
     let [name, line] = given else {
         return Err(Trouble::NoCase);
@@ -75,7 +78,7 @@ pub fn blamed(alloc: Global, given: &[Vec<u8>]) -> Result<Answer, Trouble> {
     }
 }
 
-/// A fault as `KIND at NAME:LINE`.
+/// The fault of a makefile as the answer of a case: `KIND at NAME:LINE`.
 pub fn fault_answer(alloc: Global, fault: &Fault) -> Result<Answer, Trouble> {
     let kind = fault.kind();
     let name = fault.name();

@@ -1,4 +1,4 @@
-//! Names of files, search paths, and worlds of files.
+//! Cases of files: their names, search paths, and what worlds of files have.
 use case_lines::{Answer, Trouble, as_number, as_text, one_text};
 use mk_base::{Budget, FaultKind, Stop, UNITS};
 use mk_files::{Content, Files, Listing, MemoryFiles, ask_has, ask_read, look_has, look_read};
@@ -6,7 +6,8 @@ use mk_paths::{Name, NameFault, Names, PathFault, SearchPath, find};
 use std::alloc::Global;
 use text_cases::add_texts;
 
-/// `name TEXT`, `name under DIRECTORY TEXT`: the resolved name of a file, or why there is none.
+/// The calls `name TEXT`, `name under DIRECTORY TEXT` of a case of files: the resolved name of a file, or why
+/// there is none.
 pub fn name_of(alloc: Global, given: &[Vec<u8>]) -> Result<Answer, Trouble> {
     let read = match given {
         [text] => Name::read(alloc, as_text(text)?),
@@ -21,6 +22,7 @@ pub fn name_of(alloc: Global, given: &[Vec<u8>]) -> Result<Answer, Trouble> {
     }
 }
 
+/// Shows the name of a file in a case of files, and `lost` if its text is empty.
 fn name_answer(alloc: Global, name: Name) -> Answer {
     let mut answer = Answer::of_text(alloc, name.as_str());
     if name.into_text().as_bytes().is_empty() {
@@ -29,7 +31,7 @@ fn name_answer(alloc: Global, name: Name) -> Answer {
     answer
 }
 
-/// `directory of NAME`: the directory that a file is in.
+/// The call `directory of NAME` of a case of files: the directory that a file is in.
 pub fn directory_of(alloc: Global, given: &[Vec<u8>]) -> Result<Answer, Trouble> {
     let [name] = given else {
         return Err(Trouble::NoCase);
@@ -38,7 +40,7 @@ pub fn directory_of(alloc: Global, given: &[Vec<u8>]) -> Result<Answer, Trouble>
     Ok(Answer::of_text(alloc, name.directory()))
 }
 
-/// `search path TEXT`: its trees, or `BadPath`.
+/// The call `search path TEXT` of a case of files: the trees of the search path, or `BadPath`.
 pub fn trees_of(alloc: Global, given: &[Vec<u8>]) -> Result<Answer, Trouble> {
     match SearchPath::read(alloc, one_text(given)?) {
         Ok(path) => Ok(trees_answer(alloc, &path)),
@@ -47,12 +49,12 @@ pub fn trees_of(alloc: Global, given: &[Vec<u8>]) -> Result<Answer, Trouble> {
     }
 }
 
-/// `standard search path`
+/// The call `standard search path` of a case of files: the trees of the standard search path.
 pub fn standard_trees(alloc: Global) -> Result<Answer, Trouble> {
     Ok(trees_answer(alloc, &SearchPath::standard(alloc)?))
 }
 
-/// The trees of a search path.
+/// The trees of a search path as the answer of a case of files.
 pub fn trees_answer(alloc: Global, path: &SearchPath) -> Answer {
     let mut answer = Answer::new(alloc);
     for tree in path.trees() {
@@ -61,7 +63,7 @@ pub fn trees_answer(alloc: Global, path: &SearchPath) -> Answer {
     answer
 }
 
-/// A name that a case gives.
+/// The name of a file that a case gives as a text. It is `NoCase` if the text is no name.
 pub fn given_name(alloc: Global, text: &[u8]) -> Result<Name, Trouble> {
     Name::read(alloc, as_text(text)?).map_err(|fault| match fault {
         NameFault::Memory(refused) => Trouble::Memory(refused),
@@ -69,7 +71,7 @@ pub fn given_name(alloc: Global, text: &[u8]) -> Result<Name, Trouble> {
     })
 }
 
-/// `put NAME BYTES`: stores a file.
+/// The line `put NAME BYTES` of a case of files: stores a file in the files of the case.
 pub fn put(alloc: Global, world: &mut MemoryFiles, given: &[Vec<u8>]) -> Result<(), Trouble> {
     let [name, bytes] = given else {
         return Err(Trouble::NoCase);
@@ -79,14 +81,14 @@ pub fn put(alloc: Global, world: &mut MemoryFiles, given: &[Vec<u8>]) -> Result<
     Ok(())
 }
 
-/// `names`: the names of all files.
+/// The call `names` of a case of files: the names of all files.
 pub fn names(alloc: Global, files: &mut MemoryFiles) -> Result<Answer, Trouble> {
     let mut answer = Answer::new(alloc);
     add_texts(&mut answer, &files.names(alloc)?);
     Ok(answer)
 }
 
-/// `remove NAME`: `removed` or `absent`.
+/// The call `remove NAME` of a case of files: removes a file, and gives `removed` or `absent`.
 pub fn remove(
     alloc: Global,
     world: &mut MemoryFiles,
@@ -99,7 +101,8 @@ pub fn remove(
     Ok(Answer::of_choice(alloc, removed, "removed", "absent"))
 }
 
-/// `read NAME`: the bytes of a file, or `absent`. Every way of asking gives the same.
+/// The call `read NAME` of a case of files: the bytes of a file, or `absent`. Every way of asking gives the
+/// same.
 pub fn read(alloc: Global, world: &mut MemoryFiles, given: &[Vec<u8>]) -> Result<Answer, Trouble> {
     let [name] = given else {
         return Err(Trouble::NoCase);
@@ -117,7 +120,7 @@ pub fn read(alloc: Global, world: &mut MemoryFiles, given: &[Vec<u8>]) -> Result
     })
 }
 
-/// What kept a question from being asked.
+/// What kept a question of a case from being asked of its files.
 fn trouble_of(stop: Stop<FaultKind>) -> Trouble {
     match stop {
         Stop::Memory(refused) => Trouble::Memory(refused),
@@ -125,7 +128,7 @@ fn trouble_of(stop: Stop<FaultKind>) -> Trouble {
     }
 }
 
-/// Whether a file is there. `None` if two ways of asking give different answers.
+/// Whether the files of a case have a file. `None` if two ways of asking give different answers.
 fn is_there(world: &mut MemoryFiles, name: &Name) -> Result<Option<bool>, Trouble> {
     let has = world.has(name)?;
     let is_held = world.get(name).is_some();
@@ -136,7 +139,8 @@ fn is_there(world: &mut MemoryFiles, name: &Name) -> Result<Option<bool>, Troubl
     }
 }
 
-/// The bytes of a content, and those of the other one if they aren't the same.
+/// The bytes of a file as the answer of a case, and its bytes by another way of asking if they aren't the
+/// same.
 pub fn two_answer(alloc: Global, one: &[u8], other: &[u8]) -> Answer {
     let mut answer = Answer::new(alloc);
     answer.text(one);
@@ -146,7 +150,7 @@ pub fn two_answer(alloc: Global, one: &[u8], other: &[u8]) -> Answer {
     answer
 }
 
-/// A budget that has counted so many questions.
+/// A budget that has counted so many questions, for a case that asks files for more.
 fn asked(count: &[u8]) -> Result<Budget, Trouble> {
     let mut budget = Budget::new(UNITS);
     for _ in 0..as_number(count)? {
@@ -155,8 +159,8 @@ fn asked(count: &[u8]) -> Result<Budget, Trouble> {
     Ok(budget)
 }
 
-/// `ask has NAME after N`: after N questions were counted, `there` or `absent`, or the kind of the fault,
-/// and how many questions are counted then.
+/// The call `ask has NAME after N` of a case of files: after N questions were counted, `there` or `absent`,
+/// or the kind of the fault, and how many questions are counted then.
 pub fn ask_has_answer(
     alloc: Global,
     world: &mut MemoryFiles,
@@ -176,7 +180,8 @@ pub fn ask_has_answer(
     Ok(answer)
 }
 
-/// `ask read NAME after N`: the same of a file's bytes.
+/// The call `ask read NAME after N` of a case of files: after N questions were counted, the bytes of a file
+/// or `absent`, or the kind of the fault, and how many questions are counted then.
 pub fn ask_read_answer(
     alloc: Global,
     world: &mut MemoryFiles,
@@ -196,7 +201,8 @@ pub fn ask_read_answer(
     Ok(answer)
 }
 
-/// `place of DIRECTORY on PATH`: the makefile of a directory, or `none`.
+/// The call `place of DIRECTORY on PATH` of a case of files: the makefile of a directory on a search path, or
+/// `none`.
 pub fn place(alloc: Global, world: &mut MemoryFiles, given: &[Vec<u8>]) -> Result<Answer, Trouble> {
     let [directory, path] = given else {
         return Err(Trouble::NoCase);
@@ -208,7 +214,7 @@ pub fn place(alloc: Global, world: &mut MemoryFiles, given: &[Vec<u8>]) -> Resul
     })
 }
 
-/// A search path that a case gives.
+/// The search path that a case of files gives as a text. It is `NoCase` if the text is no search path.
 pub fn given_path(alloc: Global, text: &[u8]) -> Result<SearchPath, Trouble> {
     SearchPath::read(alloc, as_text(text)?).map_err(|fault| match fault {
         PathFault::Memory(refused) => Trouble::Memory(refused),

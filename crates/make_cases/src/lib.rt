@@ -1,4 +1,4 @@
-//! Cases of makefiles: budgets, variables and expansion, conditions, loops, files, evaluation.
+//! Cases of makefiles: faults and budgets, variables and expansion, conditions, loops, files, evaluation.
 #![tactic(auto)]
 
 mod evaluation;

@@ -1,4 +1,4 @@
-//! Loops: their headers, and lines with words put in.
+//! Cases of loops: their headers, and lines with the words of iterations put in.
 use case_lines::{Answer, Trouble, as_number, as_text};
 use mk_base::{Budget, FaultKind, PureStop, Stop, UNITS};
 use mk_env::Env;
@@ -6,11 +6,11 @@ use mk_loop::{Iteration, put_words, read_header};
 use std::alloc::Global;
 use std::rc::Rc;
 
-/// A line with words put in. `None` if there are none to put in.
+/// A line of a case with the words of loops put in. `None` if there are none to put in.
 type Put = Result<Option<String>, PureStop<FaultKind>>;
 
-/// `iterations of HEADER on LINE`: the line with the words of each iteration put in, with the units spent; of a fault
-/// its kind. A number after `within` is the limit of the budget.
+/// The call `iterations of HEADER on LINE` of a case of loops: the line with the words of each iteration put
+/// in, with the units spent; of a fault its kind. A number after `within` is the limit of the budget.
 pub fn iterations_of(alloc: Global, variables: &Env, given: &[Vec<u8>]) -> Result<Answer, Trouble> {
     let (limit, header, line) = match given {
         [header, line] => (UNITS, header, line),
@@ -35,6 +35,7 @@ pub fn iterations_of(alloc: Global, variables: &Env, given: &[Vec<u8>]) -> Resul
     Ok(answer)
 }
 
+/// Adds to the answer of a case of loops a line with words put in, `unchanged`, or the kind of a fault.
 fn add_put(answer: &mut Answer, put: Put) {
     match put {
         Ok(Some(text)) => answer.text(text.as_bytes()),
@@ -43,9 +44,9 @@ fn add_put(answer: &mut Answer, put: Put) {
     }
 }
 
-/// `put words into LINE of HEADER..`: the line with words put in, or `unchanged`; and the units spent. Of a
-/// fault its kind. The words are those of the first iteration of each of these loops, the innermost last. A
-/// number after `within` is the limit of the budget.
+/// The call `put words into LINE of HEADER..` of a case of loops: the line with words put in, or `unchanged`;
+/// and the units spent. Of a fault its kind. The words are those of the first iteration of each of these
+/// loops, the innermost last. A number after `within` is the limit of the budget.
 pub fn put_words_answer(
     alloc: Global,
     variables: &Env,
@@ -67,7 +68,7 @@ pub fn put_words_answer(
     Ok(answer)
 }
 
-/// The line in the first iterations of these loops.
+/// The line of a case with the words of the first iterations of these loops put in.
 fn put_in(
     alloc: Global,
     variables: &Env,
@@ -82,7 +83,7 @@ fn put_in(
     Ok(put_words(alloc, variables, loops.as_slice(), line, budget))
 }
 
-/// The first iteration of a loop.
+/// The first iteration of the loop whose header a case gives. It is `NoCase` if there is none.
 fn first_iteration(alloc: Global, variables: &Env, header: &[u8]) -> Result<Iteration, Trouble> {
     let mut budget = Budget::new(UNITS);
     match read_header(alloc, variables, as_text(header)?, &mut budget) {

@@ -1,4 +1,4 @@
-//! What lines without `=>` set up, and what the layers of makefiles give over it.
+//! The setup of cases: what lines without `=>` set up, and the calls of cases of makefiles over it.
 use crate::truth::truth_answer;
 use crate::world::World;
 use crate::{evaluation, faults, files, loops, variables};
@@ -8,7 +8,7 @@ use mk_files::Content;
 use mk_text::Profile;
 use std::alloc::{AllocError, Global};
 
-/// What lines without `=>` set up for the lines after them.
+/// The setup of cases of makefiles: what lines without `=>` set up for the lines after them.
 #[derive(Drop)]
 pub struct Setup {
     alloc: Global,
@@ -19,7 +19,7 @@ pub struct Setup {
 }
 
 impl Setup {
-    /// No variable and no file, in the first profile.
+    /// A setup of cases with no variable and no file, in the first profile.
     pub fn new(alloc: Global) -> Result<Setup, AllocError> {
         Ok(Setup {
             alloc,
@@ -29,8 +29,8 @@ impl Setup {
         })
     }
 
-    /// Sets up what a line without `=>` says. The error is `NoCase` if the line is in no form of a case,
-    /// and `Memory` if memory runs out.
+    /// Sets up what a line of a case without `=>` says. The error is `NoCase` if the line is in no form of a
+    /// case, and `Memory` if memory runs out.
     pub fn set_up(&mut self, call: &str, given: &[Vec<u8>]) -> Result<(), Trouble> {
         match call {
             "profile" => self.set_profile(given)?,
@@ -44,7 +44,8 @@ impl Setup {
         Ok(())
     }
 
-    /// `profile N`: from now on the files are read in this profile, and there is no variable.
+    /// The line `profile N` in the setup of a case: from now on the files are read in this profile, and there
+    /// is no variable.
     fn set_profile(&mut self, given: &[Vec<u8>]) -> Result<(), Trouble> {
         let [number] = given else {
             return Err(Trouble::NoCase);
@@ -55,7 +56,8 @@ impl Setup {
         Ok(())
     }
 
-    /// `makefile BYTES`
+    /// The line `makefile BYTES` in the setup of a case: stores the makefile that cases of evaluation are
+    /// about.
     fn put_makefile(&mut self, given: &[Vec<u8>]) -> Result<(), Trouble> {
         let [bytes] = given else {
             return Err(Trouble::NoCase);
@@ -66,7 +68,8 @@ impl Setup {
         Ok(())
     }
 
-    /// `set NAME TEXT`, `append NAME TEXT`, `default NAME TEXT`, `undef NAME`
+    /// The lines `set NAME TEXT`, `append NAME TEXT`, `default NAME TEXT`, `undef NAME` in the setup of a
+    /// case: each changes a variable.
     fn change_variables(&mut self, call: &str, given: &[Vec<u8>]) -> Result<(), Trouble> {
         match given {
             [name, text] => self.change_variable(call, as_text(name)?, as_text(text)?),
@@ -78,6 +81,7 @@ impl Setup {
         }
     }
 
+    /// Changes a variable in the setup of a case by a text: sets it, appends to it, or gives it a default.
     fn change_variable(&mut self, call: &str, name: &str, text: &str) -> Result<(), Trouble> {
         match call {
             "set" => self.variables.set(name, text)?,
@@ -88,8 +92,8 @@ impl Setup {
         Ok(())
     }
 
-    /// What the call of a line gives. The error is `NoCase` if the line is in no form of a case, and
-    /// `Memory` if memory runs out.
+    /// What the call of a case's line gives over the setup. The error is `NoCase` if the line is in no form
+    /// of a case, and `Memory` if memory runs out.
     pub fn answer(&mut self, call: &str, given: &[Vec<u8>]) -> Result<Answer, Trouble> {
         let alloc = self.alloc;
         let variables = &self.variables;
@@ -117,6 +121,8 @@ impl Setup {
         }
     }
 
+    /// What the call of a case's line gives over the setup, if it is a call of files, of evaluation or of
+    /// texts.
     fn answer_of_files(&mut self, call: &str, given: &[Vec<u8>]) -> Result<Answer, Trouble> {
         let alloc = self.alloc;
         let files = &mut self.world.files;
@@ -135,6 +141,7 @@ impl Setup {
         }
     }
 
+    /// What the call of a case's line gives over the setup, if it is a call of evaluation or of texts.
     fn answer_of_makefile(&mut self, call: &str, given: &[Vec<u8>]) -> Result<Answer, Trouble> {
         let alloc = self.alloc;
         let world = &mut self.world;
@@ -149,7 +156,7 @@ impl Setup {
     }
 }
 
-/// A profile that a case gives by its number.
+/// The profile that a line of a case's setup gives by its number.
 fn given_profile(number: &[u8]) -> Result<Profile, Trouble> {
     match as_number(number)? {
         1 => Ok(Profile::One),

@@ -1,4 +1,4 @@
-//! Whether conditions hold.
+//! Cases of truth: whether conditions hold.
 use crate::files::given_name;
 use case_lines::{Answer, Trouble, as_number, as_text};
 use mk_base::{Budget, UNITS};
@@ -7,12 +7,12 @@ use mk_env::Env;
 use mk_files::MemoryFiles;
 use std::alloc::Global;
 
-/// The makefile in which the conditions are.
+/// The makefile in which the conditions of cases of truth are.
 const MAKEFILE: &str = "/ports/a/b/Makefile";
 
-/// `truth TEXT`: whether the condition holds under its directive, or the kind of its fault; then the units
-/// spent and the questions counted. `truth TEXT within LIMIT after N`: the same with so many units, after
-/// so many questions were counted.
+/// The call `truth TEXT` of a case of truth: whether the condition holds under its directive, or the kind of
+/// its fault; then the units spent and the questions counted. In `truth TEXT within LIMIT after N` there are
+/// so many units, after so many questions were counted.
 pub fn truth_answer(
     alloc: Global,
     variables: &Env,

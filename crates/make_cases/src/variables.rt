@@ -1,11 +1,12 @@
-//! Variables and expansion.
+//! Cases of variables: their texts, and what texts with references to them expand to.
 use case_lines::{Answer, Trouble, as_number, as_text, one_text};
 use mk_base::{Budget, Fault, FaultKind, PureStop, Stop, UNITS};
 use mk_env::{Env, expand, expand_inside, expand_now, expand_variable, modify};
 use std::alloc::Global;
 
-/// `expand TEXT`, `expand now TEXT`, `variable NAME`, `inside TEXT`: what one of these calls expands a text
-/// to, with the units spent; of a fault its kind. A number in front is the limit of the budget.
+/// The calls `expand TEXT`, `expand now TEXT`, `variable NAME`, `inside TEXT` of a case of variables: what
+/// one of these calls expands a text to, with the units spent; of a fault its kind. A number in front is the
+/// limit of the budget.
 pub fn expansion(
     alloc: Global,
     variables: &Env,
@@ -28,8 +29,8 @@ pub fn expansion(
     Ok(expansion_answer(alloc, outcome, &budget))
 }
 
-/// `modify MODIFIERS on TEXT`: what they make of a text that is given, in the form of `expand`. A number
-/// after `within` is the limit of the budget.
+/// The call `modify MODIFIERS on TEXT` of a case of variables: what the modifiers make of a text that is
+/// given, in the form of `expand`. A number after `within` is the limit of the budget.
 pub fn modified(alloc: Global, variables: &Env, given: &[Vec<u8>]) -> Result<Answer, Trouble> {
     let (limit, modifiers, text) = match given {
         [modifiers, text] => (UNITS, modifiers, text),
@@ -42,6 +43,7 @@ pub fn modified(alloc: Global, variables: &Env, given: &[Vec<u8>]) -> Result<Ans
     Ok(expansion_answer(alloc, outcome, &budget))
 }
 
+/// Shows in a case of variables what a text expands to, or the kind of its fault, with the units spent.
 fn expansion_answer(
     alloc: Global,
     outcome: Result<String, PureStop<FaultKind>>,
@@ -56,7 +58,7 @@ fn expansion_answer(
     answer
 }
 
-/// `get NAME`, `get from copy NAME`: the text of a variable, or `undefined`.
+/// The calls `get NAME`, `get from copy NAME` of a case of variables: the text of a variable, or `undefined`.
 pub fn text_of_variable(
     alloc: Global,
     variables: &Env,

@@ -1,4 +1,4 @@
-//! The world of one tenant, in memory.
+//! The world of a case: the files and settings of one tenant, in memory.
 use crate::evaluation::Way;
 use mk_files::MemoryFiles;
 use mk_paths::{SearchPath, Settings};
@@ -6,7 +6,7 @@ use mk_text::Profile;
 use read_trace::Trace;
 use std::alloc::{AllocError, Global};
 
-/// A tenant's files and settings, and how makefiles are evaluated among them.
+/// The world of a case: a tenant's files and settings, and how makefiles are evaluated among them.
 #[derive(Drop)]
 pub struct World {
     pub files: MemoryFiles,
@@ -17,7 +17,7 @@ pub struct World {
 }
 
 impl World {
-    /// No file, and the standard search path, in this profile.
+    /// A world of a case with no file and with the standard search path, in this profile.
     pub fn new(alloc: Global, profile: Profile) -> Result<World, AllocError> {
         Ok(World {
             files: MemoryFiles::new(alloc),

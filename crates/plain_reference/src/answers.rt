@@ -1,4 +1,4 @@
-//! Questions that are answered at once.
+//! The answers of the plain reference: questions answered at once from files, and the effort for them.
 ghost use Rattle.mk_paths.specs.FilesView.{view_world};
 ghost use Rattle.plain_reference.specs.Work.{RepliesTo, TellsEffort, effort_for};
 ghost use Rattle.plain_service.specs.Answers.{answer_to};
@@ -14,8 +14,8 @@ use port_index::makefiles_are_evaluated;
 use ports_http::Reply;
 use std::alloc::Global;
 
-/// The answer to a question over the world of these files and settings: its reply, and what is to be changed. It fails if
-/// the files fail, or if memory runs out.
+/// The plain reference's answer to a question over the world of these files and settings, made at once: its
+/// reply, and what is to be changed. It fails if the files fail, or if memory runs out.
 pub fn answer<F: Listing>(
     alloc: Global,
     files: &mut F,
@@ -48,10 +48,12 @@ pub fn answer<F: Listing>(
     }
 }
 
-/// What the answer to a question rests on over the world of these files and settings: how many makefiles,
-/// each once for each choice of flavors, and what their evaluations cost, with the records, the SUBDIRs and
-/// the value. A question about the index rests on the makefiles that items name too, also if its answer
-/// doesn't need them. It fails if the files fail, or if memory runs out.
+/// The effort for the plain reference's answer to a question over the world of these files and settings. It
+/// counts the makefiles, each once for each choice of flavors, and the units of their evaluations, with those
+/// of the records, the SUBDIRs and the value.
+///
+/// A question about the index rests on the makefiles that items name too, also if its answer doesn't need
+/// them. It fails if the files fail, or if memory runs out.
 pub fn effort_for<F: Listing>(
     alloc: Global,
     files: &mut F,
@@ -74,7 +76,8 @@ pub fn effort_for<F: Listing>(
     }
 }
 
-/// The reply to a question about a port, and the work that it took.
+/// The plain reference's reply to a question about a port, answered at once from files, and the effort for
+/// it.
 fn port_reply<F: Listing>(
     alloc: Global,
     files: &mut F,

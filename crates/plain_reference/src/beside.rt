@@ -1,4 +1,5 @@
-//! The paths beside the listed ones on which an index depends.
+//! The paths on which the plain reference's index depends beside the listed ones: those that items of ports
+//! name.
 ghost use Rattle.std.specs.Prelude.{◌≡◌, map, string_bytes, IfOk, OnOk, option_map};
 ghost use Rattle.std.specs.List.{filter_map};
 ghost use Rattle.port_index.specs.Dependencies.{target_by, targets_in};
@@ -10,8 +11,9 @@ use port_index::{MemoryRows, Row};
 use port_rules::Depend;
 use std::alloc::{AllocError, Global};
 
-/// The paths on which the index depends beside the listed ones, by the rows of these: those that the items of ports
-/// among them name. Some may be listed themselves. It fails only if memory runs out.
+/// The paths on which the plain reference's index depends beside the listed ones, by the rows of the listed
+/// ones: those that the items of their ports name. Some may be listed themselves. It fails only if memory
+/// runs out.
 pub(crate) fn paths_beside(
     alloc: Global,
     listed: &[String],
@@ -27,8 +29,8 @@ pub(crate) fn paths_beside(
     Ok(beside)
 }
 
-/// Adds the paths that the items of the port in this row name, without subpackages. Without a row, or if the row is no port,
-/// it adds none.
+/// Adds to the paths beside the listed ones those that the items of the port in this row name, without
+/// subpackages. Without a row, or if the row is no port, it adds none.
 fn add_targets(alloc: Global, paths: &mut Vec<String>, row: Option<&Row>) -> Result<(), AllocError>
     ensures { OnOk result (AddsTexts (targets_in (row_says row.entry)) paths.old paths.new) }
 {
@@ -38,7 +40,8 @@ fn add_targets(alloc: Global, paths: &mut Vec<String>, row: Option<&Row>) -> Res
     }
 }
 
-/// Adds the paths that the items of these dependencies name, without subpackages.
+/// Adds to the paths beside the listed ones those that the items of these dependencies name, without
+/// subpackages.
 fn add_named(alloc: Global, paths: &mut Vec<String>, depends: &[Depend]) -> Result<(), AllocError>
     ensures { OnOk result (AddsTexts (filter_map target_by depends.now) paths.old paths.new) }
 {
@@ -48,7 +51,8 @@ fn add_named(alloc: Global, paths: &mut Vec<String>, depends: &[Depend]) -> Resu
     Ok(())
 }
 
-/// Adds the path that the item of a dependency names, without a subpackage, if the item can be read.
+/// Adds to the paths beside the listed ones the path that the item of a dependency names, without a
+/// subpackage. If the item can't be read, it adds none.
 fn add_target(alloc: Global, paths: &mut Vec<String>, depend: &Depend) -> Result<(), AllocError>
     ensures { OnOk result (AddsPath (target_by depend.now) paths.old paths.new) }
 {
@@ -58,7 +62,8 @@ fn add_target(alloc: Global, paths: &mut Vec<String>, depend: &Depend) -> Result
     Ok(())
 }
 
-/// That path.
+/// The path beside the listed ones that the item of a dependency names, without a subpackage. `None` if the
+/// item can't be read.
 fn target_of(alloc: Global, depend: &Depend) -> Result<Option<String>, AllocError>
     ensures { IfOk result (λ path. option_map string_bytes path ≡ target_by depend.now) }
 {

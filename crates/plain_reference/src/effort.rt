@@ -1,4 +1,4 @@
-//! How much work it takes to learn what paths lead to.
+//! The effort of the plain reference: how many makefiles it evaluates, and how many units that costs.
 ghost use Rattle.std.specs.Prelude.{◌≡◌};
 ghost use Rattle.plain_reference.specs.Work as work;
 ghost use Rattle.port_index.specs.Efforts.{is_there};
@@ -6,7 +6,7 @@ ghost use Rattle.port_index.specs.Seen.{finding_seen, row_seen};
 
 use port_index::{Finding, Row};
 
-/// How much work it took to learn what paths lead to. Both counts stop at 2^64 - 1.
+/// The effort that the plain reference needs to learn what paths lead to. Both counts stop at 2^64 - 1.
 #[derive(Clone, Copy, Debug, PartialEq, Eq)]
 pub struct Effort {
     /// How many makefiles were evaluated, each once for each choice of flavors.
@@ -16,7 +16,7 @@ pub struct Effort {
 }
 
 impl Effort {
-    /// No work.
+    /// No effort of the plain reference: no makefile is evaluated, and no unit is spent.
     pub(crate) fn nothing() -> Effort
         ensures { result ≡ work.no_effort }
     {
@@ -26,7 +26,8 @@ impl Effort {
         }
     }
 
-    /// The work for one path.
+    /// The effort of the plain reference for one path, by what was found there: one evaluation if there is a
+    /// makefile, and the units that it cost.
     pub(crate) fn of(found: &Finding) -> Effort
         ensures { result ≡ work.effort_of (finding_seen found.now) }
     {
@@ -37,7 +38,7 @@ impl Effort {
         }
     }
 
-    /// This work, and more.
+    /// The sum of this effort and more effort.
     pub(crate) fn and(self, more: Effort) -> Effort
         ensures { result ≡ work.both self more }
     {
@@ -48,7 +49,7 @@ impl Effort {
     }
 }
 
-/// Whether there was a makefile to evaluate.
+/// Whether the path of a row has a makefile, so that its effort counts an evaluation.
 fn is_there(row: &Row) -> bool
     ensures { result ≡ is_there (row_seen row.now) }
 {

@@ -1,4 +1,4 @@
-//! Finding what paths lead to, if they have no row yet.
+//! Rows that the plain reference fills: what each path without a row leads to.
 ghost use Rattle.mk_paths.specs.FilesView.{view_world};
 ghost use Rattle.std.specs.Prelude.{◌≡◌};
 ghost use Rattle.std.specs.Result.{result_err};
@@ -14,11 +14,12 @@ use mk_paths::{FilesFault, Settings};
 use port_index::{KnownRow, MemoryRows, Row};
 use std::alloc::Global;
 
-/// Gives a row to each of these paths that has none yet: what the path leads to. If all rows were right
-/// before, they are right after it. The rows that were there stay, and no other path gets one. The result
-/// is the work that this took: each of these paths is evaluated once, if it has no row yet.
+/// Fills the rows of the plain reference's index for these paths: each path that has no row yet gets one that
+/// says what the path leads to. If all rows were right before, they are right after it. The rows that were
+/// there stay, and no other path gets one.
 ///
-/// It fails if the files fail, or if memory runs out. The rows that were made until then stay.
+/// The result is the effort: each of these paths is evaluated once, if it has no row yet. It fails if the
+/// files fail, or if memory runs out. The rows that were made until then stay.
 pub(crate) fn fill<F: Files>(
     alloc: Global,
     files: &mut F,
@@ -40,7 +41,7 @@ pub(crate) fn fill<F: Files>(
     Ok(effort)
 }
 
-/// Gives this path its row, if it has none yet.
+/// Fills the row of the plain reference's index for this path, if it has none yet. The result is the effort.
 fn fill_one<F: Files>(
     alloc: Global,
     files: &mut F,
@@ -65,7 +66,7 @@ fn fill_one<F: Files>(
     Ok(effort)
 }
 
-/// A row that is stored nowhere. Nobody asks what it rests on.
+/// A filled row that is stored nowhere. Its names and its size are left empty, since nobody asks for them.
 fn unstored(alloc: Global, row: Row) -> KnownRow
     ensures { result.row ≡ row }
 {

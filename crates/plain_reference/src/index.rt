@@ -1,4 +1,4 @@
-//! The index of a ports tree, by its files.
+//! The index of a ports tree in the plain reference, made at once from files.
 ghost use Rattle.std.specs.Result.{result_err};
 ghost use Rattle.mk_paths.specs.FilesView.{view_world};
 ghost use Rattle.plain_reference.specs.Listing.{FillsPaths, GivesIndex, ListsAllPaths, ListsDirectories};
@@ -15,23 +15,23 @@ use mk_paths::{FilesFault, Settings};
 use port_index::{IndexPaths, KnownIndex, MemoryRows, directories, known_rows_are_enough, listed};
 use std::alloc::Global;
 
-/// The ports of a ports tree, and their dependencies.
+/// The plain reference's index of a ports tree, and the effort for it.
 #[derive(Debug, Drop)]
 pub struct Index {
     /// The index, by the rows of its paths.
     pub known: KnownIndex,
-    /// The work that this took.
+    /// The effort that the index took.
     pub effort: Effort,
 }
 
-/// The index of these files under these settings.
+/// The plain reference's index of these files under these settings, made at once.
 ///
 /// Each directory that a path without flavors and subpackage names is evaluated without flavors, if the
 /// search path finds its makefile. So is the trees' own directory, shown as `.`.
 ///
 /// If the makefile describes a port, the directory is a root. If it is a list, each word of its SUBDIR that
-/// has a comma is a root, if it is a path below the list's directory that leads to a port. A fault makes
-/// the directory, or that word, a root with the fault. A fault of SUBDIR makes its directory one.
+/// has a comma is a root, if it is a path below the list's directory that leads to a port. A fault makes the
+/// directory, or that word, a root with the fault. A fault of SUBDIR makes its directory one.
 ///
 /// Each makefile on which this depends is evaluated once for each choice of flavors: those of roots and
 /// lists, and those that items name. It fails if the files fail, or if memory runs out.
@@ -66,7 +66,8 @@ pub fn index_files<F: Listing>(
     })
 }
 
-/// The directories, the listed paths, and the work that it took to learn what they lead to.
+/// The directories and the listed paths of the plain reference's index, and the effort to learn what they
+/// lead to.
 #[derive(Drop)]
 struct Listed {
     directories: Vec<String>,
@@ -74,7 +75,8 @@ struct Listed {
     effort: Effort,
 }
 
-/// The listed paths. Each of them that has no row yet gets one.
+/// Lists the directories and the paths of the plain reference's index. Each of them that has no row yet gets
+/// one.
 fn list<F: Listing>(
     alloc: Global,
     files: &mut F,

@@ -1,4 +1,5 @@
-//! What a path of a ports tree leads to, by its files.
+//! The outcomes of paths in the plain reference: what a path of a ports tree leads to, evaluated at once from
+//! files.
 ghost use Rattle.std.specs.Result.{result_err};
 ghost use Rattle.port_index.specs.KeptFiles.{KeepsFiles};
 ghost use Rattle.plain_reference.specs.Findings.{AsksAt, FindsAt, FindsBy, FindsIn, IfMeans, Logs, Polls};
@@ -12,8 +13,8 @@ use pkg_path::PkgPath;
 use port_index::{Finding, finding_of};
 use std::alloc::Global;
 
-/// What a path leads to in these files under these settings. The path is in its canonical form, without a
-/// subpackage; `.` is the trees' own directory.
+/// The outcome of a path in the plain reference: what the path leads to in these files under these settings.
+/// The path is in its canonical form, without a subpackage; `.` is the trees' own directory.
 ///
 /// The makefile that the path names is evaluated with the flavors of the path. If the text is no path, it
 /// leads to nothing: `Row::Absent`. The files are asked for the place of the directory, tree by tree up to
@@ -40,7 +41,8 @@ pub fn evaluate_path<F: Files>(
     }
 }
 
-/// What a directory leads to, evaluated with these flavors or with none given.
+/// The outcome of a path in the plain reference: what its directory leads to, evaluated with these flavors or
+/// with none given.
 fn finding_in<F: Files>(
     alloc: Global,
     files: &mut F,
@@ -58,7 +60,8 @@ fn finding_in<F: Files>(
     }
 }
 
-/// What a makefile describes.
+/// The outcome of a path in the plain reference: what its makefile describes, evaluated with these flavors or
+/// with none given.
 fn finding_at<F: Files>(
     alloc: Global,
     files: &mut F,
@@ -74,8 +77,8 @@ fn finding_at<F: Files>(
     Ok(finding_of(alloc, &outcome, makefile, flavors)?)
 }
 
-/// How the evaluation of a makefile ends, with these flavors or with none given. It fails if the files fail, or if memory
-/// runs out.
+/// How the evaluation of a path's makefile ends in the plain reference, with these flavors or with none
+/// given. It fails if the files fail, or if memory runs out.
 pub(crate) fn outcome_of<F: Files>(
     alloc: Global,
     files: &mut F,

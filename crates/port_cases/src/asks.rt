@@ -1,4 +1,4 @@
-//! Evaluations that are asked for, with a cache of evaluations.
+//! Cases of asks: evaluations that are asked for, with a cache of evaluations.
 ghost use Rattle.read_trace.specs.Recorder.{view_of};
 ghost use Rattle.eval_ask.specs.Ask.{IsAskUnderWay};
 
@@ -11,12 +11,13 @@ use mk_files::{Content, Files};
 use read_trace::{Recorder, Trace};
 use std::alloc::{AllocError, Global};
 
-/// `asked PARSES EVALS STEP..`: what the steps tell, with a cache of these sizes that holds nothing at first.
-/// Then how often a parse and an evaluation were used again, and how many parses and keys are kept.
+/// The call `asked PARSES EVALS STEP..` of a case of asks: what the steps tell, with a cache of these sizes
+/// that holds nothing at first. Then how often a parse and an evaluation were used again, and how many parses
+/// and keys are kept.
 ///
 /// The step `NAME` or `NAME FLAVORS` asks for the evaluation of that makefile. It tells the fault if there is
-/// one, the units that were spent, and the answers that were checked. The step `+NAME CONTENT` stores a file, and
-/// `-NAME` removes it.
+/// one, the units that were spent, and the answers that were checked. The step `+NAME CONTENT` stores a file,
+/// and `-NAME` removes it.
 pub fn asked_answer(
     alloc: Global,
     world: &mut World,
@@ -34,7 +35,8 @@ pub fn asked_answer(
     .after(alloc, world, steps)
 }
 
-/// `asked by UNITS PARSES EVALS STEP..`: the same, by turns of so many units. Each step tells how many there were.
+/// The call `asked by UNITS PARSES EVALS STEP..` of a case of asks: what the steps of `asked` tell if each
+/// evaluation goes on by turns of so many units. Each step tells how many turns there were.
 pub fn asked_by_turns(
     alloc: Global,
     world: &mut World,
@@ -52,7 +54,8 @@ pub fn asked_by_turns(
     .after(alloc, world, steps)
 }
 
-/// A cache, the units that each turn of an evaluation is given if it isn't done in one, and what was told.
+/// A case of asks: a cache, the units that each turn of an evaluation is given if it isn't done in one, and
+/// what was told.
 #[derive(Drop)]
 struct Asking {
     cache: EvalCache,
@@ -60,12 +63,13 @@ struct Asking {
     answer: Answer,
 }
 
+/// The number of parses or evaluations that the cache of a case of asks keeps.
 fn size(given: &[u8]) -> Result<usize, Trouble> {
     usize::try_from(as_number(given)?).map_err(|_| Trouble::NoCase)
 }
 
 impl Asking {
-    /// What is told after these steps.
+    /// What a case of asks tells after these steps, with the counts of its cache.
     fn after(
         mut self,
         alloc: Global,
@@ -88,6 +92,7 @@ impl Asking {
         Ok(answer)
     }
 
+    /// Takes a step of a case of asks: stores a file, removes a file, or asks for an evaluation.
     fn take_step(&mut self, alloc: Global, world: &mut World, step: &str) -> Result<(), Trouble> {
         if let Some(file) = step.strip_prefix('+') {
             return store(alloc, world, file);
@@ -105,6 +110,7 @@ impl Asking {
         }
     }
 
+    /// Asks for the evaluation of a makefile in a step of a case of asks, and tells its end.
     fn ask_for(
         &mut self,
         alloc: Global,
@@ -131,9 +137,9 @@ impl Asking {
     }
 }
 
-/// The end of an evaluation that is asked for, by turns of so many units, and how many there are. Each turn
-/// spends a unit, and the last one ends it. It fails if the files fail, or if memory runs out, and it is `NoCase` if
-/// the turns have no end.
+/// The end of an evaluation that a case asks for, by turns of so many units, and how many there are. Each
+/// turn spends a unit, and the last one ends it. It fails if the files fail, or if memory runs out, and it is
+/// `NoCase` if the turns have no end.
 pub fn by_turns<F: Files + Drop>(
     alloc: Global,
     cache: &mut EvalCache,
@@ -153,6 +159,7 @@ pub fn by_turns<F: Files + Drop>(
     Err(Trouble::NoCase)
 }
 
+/// Stores the file that a step of a case of asks gives by its name and content.
 fn store(alloc: Global, world: &mut World, file: &str) -> Result<(), Trouble> {
     let Some((name, content)) = file.split_once(' ') else {
         return Err(Trouble::NoCase);
@@ -166,6 +173,7 @@ fn store(alloc: Global, world: &mut World, file: &str) -> Result<(), Trouble> {
     Ok(())
 }
 
+/// The flavors that a step of a case of asks gives, cut at blanks.
 fn words(alloc: Global, text: &str) -> Result<Vec<String>, AllocError> {
     let mut words = Vec::new(alloc);
     for word in text.split(' ') {
@@ -174,6 +182,8 @@ fn words(alloc: Global, text: &str) -> Result<Vec<String>, AllocError> {
     Ok(words)
 }
 
+/// Tells in a case of asks how an evaluation ended: its fault if it has one, the units spent and the answers
+/// checked.
 fn tell(asked: &Asked, answer: &mut Answer) {
     if let Err(failed) = &asked.evaluation.outcome {
         answer.number(failed.fault.kind().number() as u64);

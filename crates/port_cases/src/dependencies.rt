@@ -1,4 +1,4 @@
-//! The layer of dependencies: items, what meets them, and questions about lists of ports.
+//! Cases of dependencies: items, what meets them, and questions about lists of ports.
 use case_lines::{Answer, Trouble, as_text, one_text};
 use make_cases::{World, evaluated, makefile};
 use mk_base::FaultKind;
@@ -13,11 +13,11 @@ use ports_query::{
 use std::alloc::{AllocError, Global};
 use text_cases::{add_texts, path_of};
 
-/// The path at which the makefile's port is.
+/// The path at which the makefile's port is in cases of dependencies.
 const ROOT: &str = "a/b";
 
-/// `index`: the roots of the world, each with its path and whether a fault is met there, and then each
-/// item of a root with its status.
+/// The call `index` of a case of dependencies: the roots of the world, each with its path and whether a fault
+/// is met there, and then each item of a root with its status.
 pub fn index(alloc: Global, world: &mut World) -> Result<Answer, Trouble> {
     let index = index_files(alloc, &mut world.files, &world.settings)?.known;
     let mut answer = Answer::new(alloc);
@@ -35,8 +35,8 @@ pub fn index(alloc: Global, world: &mut World) -> Result<Answer, Trouble> {
     Ok(answer)
 }
 
-/// `items`: the items of the makefile's port, each with its kind, its package, its path
-/// and its spec, or `BadItem`.
+/// The call `items` of a case of dependencies: the items of the makefile's port, each with its kind, its
+/// package, its path and its spec, or `BadItem`.
 pub fn items_answer(alloc: Global, world: &mut World) -> Result<Answer, Trouble> {
     let mut answer = Answer::new(alloc);
     for item in &items(alloc, &port(alloc, world)?)? {
@@ -45,6 +45,8 @@ pub fn items_answer(alloc: Global, world: &mut World) -> Result<Answer, Trouble>
     Ok(answer)
 }
 
+/// Adds to the answer of a case of dependencies an item with its kind, its package, its path and its spec, or
+/// `BadItem`.
 fn add_item(alloc: Global, answer: &mut Answer, item: &Item) -> Result<(), Trouble> {
     answer.word(item.kind().as_str());
     answer.text(item.subpackage().as_bytes());
@@ -58,8 +60,9 @@ fn add_item(alloc: Global, answer: &mut Answer, item: &Item) -> Result<(), Troub
     Ok(())
 }
 
-/// `statuses WHAT`: the statuses of the items of the makefile's port, if each path leads to this: `absent`,
-/// `flavor` (a fault of a flavor), `fault` (another), `other` (no port), `port` (that port itself).
+/// The call `statuses WHAT` of a case of dependencies: the statuses of the items of the makefile's port, if
+/// each path leads to this. WHAT is `absent`, `flavor` (a fault of a flavor), `fault` (another), `other` (no
+/// port), or `port` (that port itself).
 pub fn statuses(alloc: Global, world: &mut World, given: &[Vec<u8>]) -> Result<Answer, Trouble> {
     let what = one_text(given)?;
     let port = port(alloc, world)?;
@@ -69,6 +72,7 @@ pub fn statuses(alloc: Global, world: &mut World, given: &[Vec<u8>]) -> Result<A
     }
 }
 
+/// The statuses of a port's items in a case of dependencies, if each path leads to this.
 fn statuses_answer(alloc: Global, port: &PortRecord, found: Found<'_>) -> Result<Answer, Trouble> {
     let mut answer = Answer::new(alloc);
     for item in items(alloc, port)? {
@@ -77,6 +81,7 @@ fn statuses_answer(alloc: Global, port: &PortRecord, found: Found<'_>) -> Result
     Ok(answer)
 }
 
+/// What the paths of all items lead to in a case of dependencies, by the word that the case gives.
 fn found_there<'a>(what: &str, port: &'a PortRecord) -> Option<Found<'a>> {
     match what {
         "absent" => Some(Found::NotThere),
@@ -88,9 +93,10 @@ fn found_there<'a>(what: &str, port: &'a PortRecord) -> Option<Found<'a>> {
     }
 }
 
-/// Questions about the items of the makefile's port at `a/b`, each of whose paths leads to that port.
-/// `first KIND PATH`: the items that the path has. `to KIND PATH`: those that lead to it. `reached KIND
-/// PATH`, `reaching KIND PATH`: the paths that are reached from there over these items, or that reach it.
+/// Questions of a case of dependencies about the items of the makefile's port at `a/b`, each of whose paths
+/// leads to that port. `first KIND PATH`: the items that the path has. `to KIND PATH`: the items that lead to
+/// the path. `reached KIND PATH`, `reaching KIND PATH`: the paths that are reached from it over these items,
+/// or that reach it.
 pub fn over_edges(
     alloc: Global,
     world: &mut World,
@@ -105,6 +111,7 @@ pub fn over_edges(
     edges_answer(alloc, what, kinds, &path, &edges(alloc, world)?)
 }
 
+/// The answer of a case of dependencies about these edges: `first`, `to`, `reached` or `reaching`.
 fn edges_answer(
     alloc: Global,
     what: &str,
@@ -120,7 +127,8 @@ fn edges_answer(
     })
 }
 
-/// `list WHERE`: the names of the makefile's packages that meet the conditions, or `BadQuery`.
+/// The call `list WHERE` of a case of dependencies: the names of the makefile's packages that meet the
+/// conditions, or `BadQuery`.
 pub fn listed(alloc: Global, world: &mut World, given: &[Vec<u8>]) -> Result<Answer, Trouble> {
     match Query::read(alloc, one_text(given)?) {
         Ok(query) => {
@@ -133,7 +141,8 @@ pub fn listed(alloc: Global, world: &mut World, given: &[Vec<u8>]) -> Result<Ans
     }
 }
 
-/// `match SPEC`: the names of the makefile's packages that the spec admits, or `BadSpec`.
+/// The call `match SPEC` of a case of dependencies: the names of the makefile's packages that the spec
+/// admits, or `BadSpec`.
 pub fn matched(alloc: Global, world: &mut World, given: &[Vec<u8>]) -> Result<Answer, Trouble> {
     match Spec::read(alloc, one_text(given)?) {
         Ok(spec) => {
@@ -146,6 +155,8 @@ pub fn matched(alloc: Global, world: &mut World, given: &[Vec<u8>]) -> Result<An
     }
 }
 
+/// Shows in a case of dependencies the packages of a list of ports: each with its path, its subpackage and
+/// its name.
 fn packages_answer(alloc: Global, packages: &[Listed<'_>]) -> Answer {
     let mut answer = Answer::new(alloc);
     for package in packages {
@@ -156,7 +167,7 @@ fn packages_answer(alloc: Global, packages: &[Listed<'_>]) -> Answer {
     answer
 }
 
-/// The makefile's port.
+/// The makefile's port, which cases of dependencies are about.
 fn port(alloc: Global, world: &mut World) -> Result<PortRecord, Trouble> {
     match evaluated(alloc, world)? {
         Ok(evaluated) => match record(alloc, &evaluated, &makefile(alloc)?) {
@@ -167,6 +178,7 @@ fn port(alloc: Global, world: &mut World) -> Result<PortRecord, Trouble> {
     }
 }
 
+/// The edges of the makefile's port in a case of dependencies, each of which leads to that port.
 fn edges(alloc: Global, world: &mut World) -> Result<Vec<RootEdge>, Trouble> {
     let port = port(alloc, world)?;
     let mut edges = Vec::new(alloc);
@@ -176,11 +188,13 @@ fn edges(alloc: Global, world: &mut World) -> Result<Vec<RootEdge>, Trouble> {
     Ok(edges)
 }
 
+/// The edge of an item in a case of dependencies, if its path leads to this port.
 fn edge(alloc: Global, item: Item, port: &PortRecord) -> Result<RootEdge, AllocError> {
     let edge = resolve(item, Found::Port(port));
     Ok(RootEdge::new(String::from_str(alloc, ROOT)?, edge))
 }
 
+/// The items of these edges as the answer of a case of dependencies.
 fn items_of(alloc: Global, edges: &[&RootEdge]) -> Answer {
     let mut answer = Answer::new(alloc);
     for edge in edges {
@@ -189,6 +203,7 @@ fn items_of(alloc: Global, edges: &[&RootEdge]) -> Answer {
     answer
 }
 
+/// These paths as the answer of a case of dependencies.
 fn texts_answer(alloc: Global, texts: &[String]) -> Answer {
     let mut answer = Answer::new(alloc);
     add_texts(&mut answer, texts);

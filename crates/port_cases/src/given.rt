@@ -1,6 +1,6 @@
-//! What the turns of a refresh are given.
+//! What the turns of a refresh are given in cases of refreshes: units, and a limit of the store's steps.
 
-/// In which turn of a refresh each statement of the index's store may take so many steps at most.
+/// In which turn of a case's refresh each statement of the index's store may take so many steps at most.
 #[derive(Clone, Copy)]
 pub(crate) enum Limit {
     Never,
@@ -8,15 +8,15 @@ pub(crate) enum Limit {
     In(usize, u64),
 }
 
-/// What the turns of a refresh are given: units for each, and the limit of statements.
+/// What the turns of a case's refresh are given: units for each, and the limit of statements.
 #[derive(Clone, Copy)]
 pub(crate) struct Given {
     pub(crate) units: u64,
     pub(crate) limit: Limit,
 }
 
-/// What a turn of a refresh is given: its units, and how many steps each statement of the index's store may take at most,
-/// if there is a limit.
+/// What a turn of a case's refresh is given: its units, and how many steps each statement of the index's
+/// store may take at most, if there is a limit.
 #[derive(Clone, Copy)]
 pub(crate) struct TurnGiven {
     pub(crate) units: u64,
@@ -24,7 +24,7 @@ pub(crate) struct TurnGiven {
 }
 
 impl Given {
-    /// So many units for each turn, and no limit of statements.
+    /// So many units given to each turn of a case's refresh, and no limit of statements.
     pub(crate) fn unlimited(units: u64) -> Given {
         Given {
             units,
@@ -32,7 +32,7 @@ impl Given {
         }
     }
 
-    /// What the turn with this number is given.
+    /// What the turn of a case's refresh with this number is given.
     pub(crate) fn in_turn(self, number: usize) -> TurnGiven {
         let steps = match self.limit {
             Limit::In(turn, steps) if turn == number => Some(steps),

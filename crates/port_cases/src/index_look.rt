@@ -1,4 +1,4 @@
-//! What is kept of an index, looked for in files that fail.
+//! Cases of a look for an evaluation that is kept, as the refresh of an index makes it, in files that fail.
 use crate::asks::by_turns;
 use case_lines::{Answer, Trouble, one_text};
 use eval_ask::Ask;
@@ -8,8 +8,9 @@ use mk_paths::FilesFault;
 use read_trace::{Recorder, Trace};
 use std::alloc::Global;
 
-/// `look failing NAME`: the evaluation of this makefile is kept, and then looked for in the same files, which fail at each
-/// call in turn. It gives how many calls there are, the cost that is found or `miss`, and the answers checked.
+/// The call `look failing NAME` of a case of a look: the evaluation of this makefile is kept, and then looked
+/// for in the same files, which fail at each call in turn. It gives how many calls there are, the cost that
+/// is found or `miss`, and the answers checked.
 pub fn look_failing(
     alloc: Global,
     world: &mut World,
@@ -30,7 +31,7 @@ pub fn look_failing(
     failing_answer(alloc, files, &mut Looking { cache, key })
 }
 
-/// A cache in which an evaluation is looked for.
+/// A cache in which a case looks for an evaluation.
 #[derive(Drop)]
 struct Looking {
     cache: EvalCache,
@@ -38,6 +39,8 @@ struct Looking {
 }
 
 impl Asking for Looking {
+    /// What a case's look for a kept evaluation gives over failing files: its cost or `miss`, and the answers
+    /// checked.
     fn ask(
         &mut self,
         alloc: Global,

@@ -1,4 +1,5 @@
-//! Cases of ports: their records, the index of all of them, and questions about it.
+//! Cases of ports: their records, what paths lead to, the index of all of them and its refreshes, and
+//! questions about it.
 #![tactic(auto)]
 
 mod asks;
@@ -14,8 +15,8 @@ use case_lines::{Answer, Trouble};
 use make_cases::Setup;
 use std::alloc::Global;
 
-/// What the call of a line gives, over what was set up. The error is `NoCase` if the line is in no form of
-/// a case, and `Memory` if memory runs out.
+/// What the call of a case's line gives over what was set up, if it is a call of ports, and else what the
+/// setup gives. The error is `NoCase` if the line is in no form of a case, and `Memory` if memory runs out.
 pub fn answer(
     alloc: Global,
     setup: &mut Setup,

@@ -1,4 +1,4 @@
-//! What paths lead to, what it costs to learn that, and what is asked.
+//! Cases of paths: what package paths lead to, what it costs to learn that, and what is asked of files.
 use case_lines::{Answer, Trouble, as_text, one_text};
 use make_cases::{Asking, FailingFiles, World, add_cost, failing_answer, given_name};
 use mk_files::Content;
@@ -8,8 +8,8 @@ use port_index::{Finding, Row};
 use read_trace::{Recorder, Reply, Trace, agrees};
 use std::alloc::Global;
 
-/// `finding PATH`: what a path leads to, what it costs to learn that, and each name that is asked for, with
-/// the answer.
+/// The call `finding PATH` of a case of paths: what a path leads to, what it costs to learn that, and each
+/// name that is asked for, with the answer.
 pub fn path_answer(alloc: Global, world: &mut World, given: &[Vec<u8>]) -> Result<Answer, Trouble> {
     let (found, trace) = recorded(alloc, world, one_text(given)?)?;
     let mut answer = Answer::of_word(alloc, row_word(&found.row));
@@ -21,7 +21,7 @@ pub fn path_answer(alloc: Global, world: &mut World, given: &[Vec<u8>]) -> Resul
     Ok(answer)
 }
 
-/// What a path leads to, with the trace of what was asked.
+/// What a path leads to in a case of paths, with the trace of what was asked of the case's files.
 fn recorded(alloc: Global, world: &mut World, path: &str) -> Result<(Finding, Trace), Trouble> {
     let World {
         files,
@@ -33,8 +33,8 @@ fn recorded(alloc: Global, world: &mut World, path: &str) -> Result<(Finding, Tr
     Ok((found, recorder.into_trace()))
 }
 
-/// `finding failing PATH`: what a path leads to, and what it costs to learn that, in files that fail at each of their calls
-/// in turn. Before that, how many calls there are.
+/// The call `finding failing PATH` of a case of paths: what a path leads to, and what it costs to learn that,
+/// in files that fail at each of their calls in turn. Before that, how many calls there are.
 pub fn finding_failing(
     alloc: Global,
     world: &mut World,
@@ -49,7 +49,7 @@ pub fn finding_failing(
     failing_answer(alloc, files, &mut FindingPath { settings, path })
 }
 
-/// A path that leads to something.
+/// A path of a case that leads to something in failing files.
 #[derive(Drop)]
 struct FindingPath<'a> {
     settings: &'a Settings,
@@ -57,6 +57,7 @@ struct FindingPath<'a> {
 }
 
 impl Asking for FindingPath<'_> {
+    /// What the path of a case leads to over failing files, and what it costs to learn that.
     fn ask(
         &mut self,
         alloc: Global,
@@ -69,6 +70,7 @@ impl Asking for FindingPath<'_> {
     }
 }
 
+/// The word for what a path leads to, as a case of paths shows it.
 fn row_word(row: &Row) -> &'static str {
     match row {
         Row::Absent => "absent",
@@ -82,6 +84,7 @@ fn row_word(row: &Row) -> &'static str {
     }
 }
 
+/// The word for the answer to a question about a file, as a case of paths shows it.
 fn reply_word(reply: &Reply) -> &'static str {
     match reply {
         Reply::Presence(true) => "there",
@@ -91,8 +94,9 @@ fn reply_word(reply: &Reply) -> &'static str {
     }
 }
 
-/// `agrees PATH NAME BYTES`, `agrees PATH NAME`: whether the files answer what was asked for the path as before,
-/// and how many answers are checked. By then they have the file NAME with these bytes, or they don't have it.
+/// The calls `agrees PATH NAME BYTES`, `agrees PATH NAME` of a case of paths: whether the files answer what
+/// was asked for the path as before, and how many answers are checked. By then they have the file NAME with
+/// these bytes, or they don't have it.
 pub fn agrees_answer(
     alloc: Global,
     world: &mut World,

@@ -1,4 +1,4 @@
-//! The layer of ports: their records.
+//! Cases of records: what the port at a path is, by its makefile.
 use case_lines::{Answer, Trouble, one_text};
 use make_cases::{World, add_cost, evaluated, failure, makefile};
 use mk_base::PureStop;
@@ -8,8 +8,8 @@ use port_rules::{Depend, Package, PortFlavors, PortRecord, record};
 use std::alloc::Global;
 use text_cases::{add_texts, path_of};
 
-/// `record PATH`: what the port at this path is, by the makefile, with its cost; or its fault, or the
-/// makefile's.
+/// The call `record PATH` of a case of records: what the port at this path is, by the makefile, with its
+/// cost; or its fault, or the makefile's.
 pub fn record_answer(
     alloc: Global,
     world: &mut World,
@@ -22,6 +22,7 @@ pub fn record_answer(
     }
 }
 
+/// Shows in a case of records what the port at a path is, with its cost, or the fault of its record.
 fn port_answer(alloc: Global, path: &PkgPath, evaluated: &Evaluated) -> Result<Answer, Trouble> {
     match record(alloc, evaluated, &makefile(alloc)?) {
         Ok(recorded) => {
@@ -37,7 +38,7 @@ fn port_answer(alloc: Global, path: &PkgPath, evaluated: &Evaluated) -> Result<A
     }
 }
 
-/// Adds a port. What is empty of it is left out.
+/// Adds the record of a port to the answer of a case. Its parts that are empty are left out.
 fn add_port(alloc: Global, answer: &mut Answer, port: &PortRecord) {
     add_flavors(answer, port.flavors());
     if !port.maintainer().is_empty() {
@@ -53,13 +54,16 @@ fn add_port(alloc: Global, answer: &mut Answer, port: &PortRecord) {
     }
 }
 
+/// Adds the flavors of a port's record to the answer of a case: the chosen ones, the proper ones, and the
+/// pseudo-flavors.
 fn add_flavors(answer: &mut Answer, flavors: &PortFlavors) {
     add_named(answer, "flavor", flavors.chosen());
     add_named(answer, "flavors", flavors.proper());
     add_named(answer, "pseudo", flavors.pseudo());
 }
 
-/// Adds texts after a word. If there are no texts, the word isn't added either.
+/// Adds texts of a port's record to the answer of a case, after a word. If there are no texts, the word isn't
+/// added either.
 fn add_named(answer: &mut Answer, word: &str, texts: &[String]) {
     if !texts.is_empty() {
         answer.word(word);
@@ -67,6 +71,7 @@ fn add_named(answer: &mut Answer, word: &str, texts: &[String]) {
     }
 }
 
+/// Adds a package of a port's record to the answer of a case: its subpackage, name and comment.
 fn add_package(alloc: Global, answer: &mut Answer, package: &Package) {
     answer.word("package");
     answer.text(package.subpackage().as_bytes());
@@ -76,6 +81,7 @@ fn add_package(alloc: Global, answer: &mut Answer, package: &Package) {
     answer.text(package.comment().as_bytes());
 }
 
+/// Adds a dependency of a port's record to the answer of a case: its kind, its subpackage and its item.
 fn add_depend(answer: &mut Answer, depend: &Depend) {
     answer.word(depend.kind().as_str());
     answer.word("of");

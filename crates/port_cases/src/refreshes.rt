@@ -1,4 +1,4 @@
-//! Indexes that are refreshed turn by turn.
+//! Cases of refreshes: indexes that are refreshed turn by turn.
 ghost use Rattle.std.specs.Prelude.{OnOk, IfOk};
 ghost use Rattle.mk_paths.specs.World as worlds;
 ghost use Rattle.index_store.specs.PortTable.{stored_by};
@@ -17,14 +17,15 @@ use mk_paths::{FilesFault, Settings};
 use read_trace::{Recorder, Trace};
 use std::alloc::Global;
 
-/// The most turns of a refresh.
+/// The most turns of a case's refresh.
 const MOST_TURNS: usize = 1000;
 
-/// More steps than a statement of the store takes in a refresh.
+/// More steps than a statement of the store takes in a case's refresh.
 const MOST_STEPS: u64 = 10_000;
 
-/// `refreshed by UNITS`: what each turn of a refresh tells that is given so many units, and how many roots the index has
-/// then. Then the same for a second index of the same files, with the same cache.
+/// The call `refreshed by UNITS` of a case of refreshes: what each turn of a refresh tells if it is given so
+/// many units, and how many roots the index has then. After that, it tells this of a second index of these
+/// files, with the same cache.
 pub fn refreshed_answer(
     alloc: Global,
     world: &mut World,
@@ -41,6 +42,8 @@ pub fn refreshed_answer(
     Ok(answer)
 }
 
+/// Adds to the answer of a case what each turn of a refresh of a new index tells, and how many roots the
+/// index has then.
 fn refresh(
     alloc: Global,
     cache: &mut EvalCache,
@@ -59,8 +62,8 @@ fn refresh(
     Ok(())
 }
 
-/// What each turn of a refresh tells that is given so many units, and how many roots the index has then, which is new. It
-/// is `NoCase` if the refresh has no end.
+/// In a case of refreshes: what each turn of a refresh of a new index tells if it is given so many units, and
+/// how many roots the index has then. It is `NoCase` if the refresh has no end.
 fn refresh_files(
     alloc: Global,
     cache: &mut EvalCache,
@@ -73,7 +76,8 @@ fn refresh_files(
     refresh_keeper(alloc, cache, &mut keeper, &mut recorder, settings, units)
 }
 
-/// The same of an index that is there.
+/// In a case of refreshes: what each turn of a refresh of this keeper's index tells if it is given so many
+/// units, and how many roots the index has then. It is `NoCase` if the refresh has no end.
 fn refresh_keeper<F: Listing + Drop>(
     alloc: Global,
     cache: &mut EvalCache,
@@ -97,8 +101,9 @@ fn refresh_keeper<F: Listing + Drop>(
     Ok((turns, roots))
 }
 
-/// `put away by UNITS`: what each turn of a refresh tells that is given so many units, and the paths of the roots that the
-/// index has then. Then the same of this index after it was put away.
+/// The call `put away by UNITS` of a case of refreshes: what each turn of a refresh tells if it is given so
+/// many units, and the paths of the roots that the index has then. After that, the index is put away, and it
+/// tells this of one more refresh.
 pub fn put_away_answer(
     alloc: Global,
     world: &mut World,
@@ -136,7 +141,7 @@ pub fn put_away_answer(
     Ok(answer)
 }
 
-/// Adds what each turn of a refresh tells, and then the paths of the roots.
+/// Adds to the answer of a case what each turn of a refresh tells, and then the paths of the roots.
 fn add_refresh<F: Listing + Drop>(
     alloc: Global,
     keeper: &mut Keeper<IndexStore>,
@@ -159,14 +164,14 @@ fn add_refresh<F: Listing + Drop>(
     Ok(())
 }
 
-/// The keeper of an index without a row.
+/// The keeper of an index without a row, for a case of refreshes.
 fn new_keeper(alloc: Global) -> Result<Keeper<IndexStore>, FilesFault>
     ensures { IfOk result (λ keeper. (world : worlds.World) → IsKept stored_by world keeper) }
 {
     Ok(Keeper::new(alloc, IndexStore::open_in_memory(alloc)?))
 }
 
-/// How many roots an index has that is refreshed, after one more turn (`end_refresh`).
+/// How many roots the index of a case has after its refresh and one more turn (`end_refresh`).
 fn count_roots<F: Listing + Drop>(
     alloc: Global,
     cache: &mut EvalCache,
@@ -180,7 +185,8 @@ fn count_roots<F: Listing + Drop>(
     Ok(keeper.index().roots(alloc)?.len() as u64)
 }
 
-/// One more turn of a refresh, which brings the index at hand. It is `NoCase` if that turn isn't the last.
+/// One more turn of a case's refresh, which brings the index at hand. It is `NoCase` if that turn isn't the
+/// last.
 fn end_refresh<F: Listing + Drop>(
     alloc: Global,
     cache: &mut EvalCache,
@@ -198,8 +204,8 @@ fn end_refresh<F: Listing + Drop>(
     }
 }
 
-/// `refreshed failing by UNITS`: what each turn of a refresh tells that is given so many units, in files that fail at each
-/// call in turn. Before that, how many calls there are.
+/// The call `refreshed failing by UNITS` of a case of refreshes: what each turn of a refresh tells if it is
+/// given so many units, in files that fail at each call in turn. Before that, how many calls there are.
 pub fn refreshed_failing(
     alloc: Global,
     world: &mut World,
@@ -217,7 +223,7 @@ pub fn refreshed_failing(
     failing_answer(alloc, files, &mut Refreshing { settings, units })
 }
 
-/// A new index that is refreshed by turns of so many units, with a new cache.
+/// A new index that a case refreshes by turns of so many units over failing files, with a new cache.
 #[derive(Drop)]
 struct Refreshing<'a> {
     settings: &'a Settings,
@@ -225,6 +231,7 @@ struct Refreshing<'a> {
 }
 
 impl Asking for Refreshing<'_> {
+    /// What each turn of a case's refresh tells over failing files.
     fn ask(
         &mut self,
         alloc: Global,
@@ -243,10 +250,12 @@ impl Asking for Refreshing<'_> {
     }
 }
 
-/// `refreshed stopped by UNITS`: what each turn of a refresh tells that is given so many units, of an index whose rows are
-/// all stale. Before that, for each of these turns, what refreshes told in which each statement of the store may take 1,
-/// 2, 3 .. steps at most in that turn, until none is stopped. It is `Store` if that is the fault of each that was
-/// stopped, `wrong` if one had another fault, and `never` if none was stopped.
+/// The call `refreshed stopped by UNITS` of a case of refreshes: what each turn of a refresh tells if it is
+/// given so many units and all rows of the index are stale.
+///
+/// Before that, a word for each of these turns: in further refreshes, each statement of the store may take 1,
+/// 2, 3 .. steps at most in that turn, until none is stopped. The word is `Store` if that is the fault of
+/// each refresh that was stopped, `wrong` if one had another fault, and `never` if none was stopped.
 pub fn refreshed_stopped(
     alloc: Global,
     world: &mut World,
@@ -271,7 +280,7 @@ pub fn refreshed_stopped(
     Ok(answer)
 }
 
-/// What is told of the turn with this number.
+/// What a case tells of refreshes that are stopped in the turn with this number: `Store`, `wrong` or `never`.
 fn stopped_in(
     alloc: Global,
     files: &mut MemoryFiles,
@@ -291,7 +300,8 @@ fn stopped_in(
     Err(Trouble::NoCase)
 }
 
-/// What each turn of a refresh tells of an index whose rows are all stale, with a new cache. `None` if it has no end.
+/// What each turn of a case's refresh tells of an index whose rows are all stale, with a new cache. `None` if
+/// it has no end.
 fn turns_of_stale(
     alloc: Global,
     files: &mut MemoryFiles,
@@ -306,7 +316,7 @@ fn turns_of_stale(
     turns_of_new_cache(alloc, &mut keeper, &mut recorder, settings, given)
 }
 
-/// What each turn of a refresh tells, with a new cache. `None` if it has no end.
+/// What each turn of a case's refresh tells, with a new cache. `None` if it has no end.
 fn turns_of_new_cache<F: Listing + Drop>(
     alloc: Global,
     keeper: &mut Keeper<IndexStore>,
@@ -320,7 +330,7 @@ fn turns_of_new_cache<F: Listing + Drop>(
     turns_of(alloc, &mut cache, keeper, files, settings, given)
 }
 
-/// What each turn of a refresh tells. `None` if it has no end.
+/// What each turn of a case's refresh tells. `None` if it has no end.
 fn turns_of<F: Listing + Drop>(
     alloc: Global,
     cache: &mut EvalCache,
@@ -343,7 +353,7 @@ fn turns_of<F: Listing + Drop>(
     Ok(None)
 }
 
-/// A turn of a refresh.
+/// One turn of a case's refresh, with the units and the limit of steps that it is given.
 fn turn_within<F: Listing + Drop>(
     alloc: Global,
     cache: &mut EvalCache,

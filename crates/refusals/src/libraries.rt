@@ -1,4 +1,4 @@
-//! Libraries that other people write, whose errors say what was refused.
+//! Libraries that other people write, by whose errors one learns what was refused.
 ghost use Rattle.std.specs.Prelude.{IsTrue, ◌↔◌};
 
 /// A library whose errors say themselves whether memory ran out.
@@ -9,7 +9,7 @@ pub trait Library {
     /// Holds of the errors that say that memory ran out.
     ghost for_memory: { Self.Error → Type 0 };
 
-    /// Whether the error says that memory ran out.
+    /// Whether this error of a library says that memory ran out.
     fn is_for_memory(error: &Self::Error) -> bool
         ensures { IsTrue result ↔ for_memory error.now };
 }

@@ -1,4 +1,4 @@
-//! That memory ran out.
+//! The refusal of memory: the value that says that memory ran out.
 ghost use Rattle.std.specs.Prelude.{IsSome, ◌↔◌};
 
 use crate::libraries::Library;
@@ -14,7 +14,8 @@ pub struct OutOfMemory {
 }
 
 impl OutOfMemory {
-    /// What a library's error says; `None` if it doesn't say that memory ran out.
+    /// The refusal of memory that a library's error tells. `None` if the error doesn't say that memory ran
+    /// out.
     pub fn told_by<L: Library>(error: &L::Error) -> Option<OutOfMemory>
         ensures { IsSome result ↔ L.for_memory error.now }
     {
@@ -27,12 +28,14 @@ impl OutOfMemory {
 }
 
 impl From<AllocError> for OutOfMemory {
+    /// The refusal of memory that a refused allocation gives.
     fn from(_error: AllocError) -> OutOfMemory {
         OutOfMemory { refused: () }
     }
 }
 
 impl<T: Drop> From<AllocFailed<T>> for OutOfMemory {
+    /// The refusal of memory that the failed allocation of a value gives.
     fn from(_error: AllocFailed<T>) -> OutOfMemory {
         OutOfMemory { refused: () }
     }
@@ -40,6 +43,7 @@ impl<T: Drop> From<AllocFailed<T>> for OutOfMemory {
 
 // The one place where an `AllocError` is written: it hands on that memory ran out.
 impl From<OutOfMemory> for AllocError {
+    /// The error of an allocation, made from a refusal of memory.
     fn from(_refused: OutOfMemory) -> AllocError {
         AllocError
     }

@@ -1,4 +1,4 @@
-//! That the store failed.
+//! The refusal of a store: the value that says that a database refused a statement.
 ghost use Rattle.std.specs.Prelude.{◌≡◌, ◌↔◌};
 ghost use Rattle.refusals.specs.Refused.{refused};
 
@@ -24,7 +24,7 @@ pub enum Refusal {
 }
 
 impl Refusal {
-    /// Why a database refused the statement that ended in this error.
+    /// Why a database refused the statement that ended in this error: memory ran out, or the store failed.
     pub fn of<D: Database>(error: &D::Error) -> Refusal
         ensures { (result ≡ Refusal.Memory refused) ↔ D.for_memory error.now }
     {

@@ -1,4 +1,5 @@
-//! Changes of what a tenant has, and what it has.
+//! Changes of a tenant's store in cases of stores: of its files and its settings, and what the store has of
+//! these.
 use case_lines::{Answer, Trouble, as_number};
 use make_cases::{given_name, given_path, trees_answer, two_answer};
 use mk_files::Files;
@@ -7,7 +8,7 @@ use mk_text::Profile;
 use std::alloc::Global;
 use tenant_store::{PutFault, TenantFiles, TenantStore};
 
-/// A change of what a tenant has.
+/// A change of a tenant's store, as a case of stores makes it.
 #[derive(Drop)]
 pub enum Change {
     /// `put TENANT NAME BYTES`
@@ -21,7 +22,7 @@ pub enum Change {
 }
 
 impl Change {
-    /// The change that a call makes.
+    /// The change of a tenant's store that a call of a case makes.
     pub fn read(alloc: Global, call: &str, given: &[Vec<u8>]) -> Result<Change, Trouble> {
         match (call, given) {
             ("put", [name, bytes]) => Ok(Change::Put(given_name(alloc, name)?, bytes.clone()?)),
@@ -32,7 +33,7 @@ impl Change {
         }
     }
 
-    /// Makes it, and gives the answer.
+    /// Makes the change in a tenant's store, and gives the answer of the case.
     pub fn make(&self, alloc: Global, store: &mut TenantStore) -> Result<&'static str, Trouble> {
         match self {
             Change::Put(name, bytes) => put(store, name, bytes.as_slice()),
@@ -42,7 +43,7 @@ impl Change {
         }
     }
 
-    /// What the store has of that which it changes.
+    /// The file or the settings that the change of a case is about, as the store has them.
     pub fn subject(&self, alloc: Global, store: &mut TenantStore) -> Result<Answer, Trouble> {
         match self {
             Change::Put(name, _) | Change::Remove(name) => file_answer(alloc, store, name),
@@ -51,7 +52,7 @@ impl Change {
     }
 }
 
-/// A put: `stored`, `Full` or `Store`.
+/// Puts a file into a tenant's store in a case: `stored`, `Full` or `Store`.
 pub fn put(store: &mut TenantStore, name: &Name, bytes: &[u8]) -> Result<&'static str, Trouble> {
     match store.put_file(name, bytes) {
         Ok(()) => Ok("stored"),
@@ -61,7 +62,7 @@ pub fn put(store: &mut TenantStore, name: &Name, bytes: &[u8]) -> Result<&'stati
     }
 }
 
-/// A removal: `removed`, `absent` or `Store`.
+/// Removes a file from a tenant's store in a case: `removed`, `absent` or `Store`.
 fn remove(store: &mut TenantStore, name: &Name) -> Result<&'static str, Trouble> {
     match store.remove_file(name) {
         Ok(true) => Ok("removed"),
@@ -71,7 +72,7 @@ fn remove(store: &mut TenantStore, name: &Name) -> Result<&'static str, Trouble>
     }
 }
 
-/// The profile of this number, 1 or 2.
+/// The profile that a case of stores gives by its number, 1 or 2.
 pub fn given_profile(number: &[u8]) -> Result<Profile, Trouble> {
     match as_number(number)? {
         1 => Ok(Profile::One),
@@ -80,7 +81,7 @@ pub fn given_profile(number: &[u8]) -> Result<Profile, Trouble> {
     }
 }
 
-/// A setting that is set: `set` or `Store`.
+/// What a case says of a setting that was set in a tenant's store: `set` or `Store`.
 fn set_answer(told: &Result<(), FilesFault>) -> Result<&'static str, Trouble> {
     match told {
         Ok(()) => Ok("set"),
@@ -89,7 +90,8 @@ fn set_answer(told: &Result<(), FilesFault>) -> Result<&'static str, Trouble> {
     }
 }
 
-/// `store get TENANT NAME`: the bytes of a file, or `absent`. Every way of asking gives the same.
+/// The call `store get TENANT NAME` of a case of stores: the bytes of a file, or `absent`. Every way of
+/// asking gives the same.
 pub fn file_answer(alloc: Global, store: &mut TenantStore, name: &Name) -> Result<Answer, Trouble> {
     let mut files = TenantFiles::new(alloc, store);
     let has = files.has(name)?;
@@ -103,7 +105,8 @@ pub fn file_answer(alloc: Global, store: &mut TenantStore, name: &Name) -> Resul
     })
 }
 
-/// `store settings TENANT`: the trees of its search path, and the number of its profile.
+/// The call `store settings TENANT` of a case of stores: the trees of the tenant's search path, and the
+/// number of its profile.
 pub fn settings_answer(alloc: Global, store: &mut TenantStore) -> Result<Answer, Trouble> {
     let settings = store.settings(alloc)?;
     let mut answer = trees_answer(alloc, &settings.path);

@@ -1,5 +1,5 @@
-//! Cases of the stores of tenants, and of the rows of an index: calls in a row, and changes that are stopped at
-//! every step.
+//! Cases of stores: the stores of tenants, and the rows of an index, with calls in a row, and changes that
+//! are stopped at every step.
 #![tactic(auto)]
 
 mod changes;
@@ -13,7 +13,7 @@ use std::alloc::Global;
 use std::num::NonZeroUsize;
 use tenant_store::TenantStore;
 
-/// The most limits of steps that a call is stopped by in turn.
+/// The most limits of steps that a call of a case of stores is stopped by in turn.
 pub const MOST_LIMITS: u64 = 10_000;
 
 /// How many tenants the cases of stores have.
@@ -22,7 +22,7 @@ const TENANTS: usize = 4;
 /// How many contents each store keeps in memory: fewer than the cases read.
 const CONTENTS: usize = 2;
 
-/// `empty stores`: those of four tenants.
+/// The line `empty stores` of a case of stores: the stores of four tenants.
 pub fn empty(alloc: Global) -> Result<Vec<TenantStore>, Trouble> {
     let contents = NonZeroUsize::new(CONTENTS).unwrap_or(NonZeroUsize::MIN);
     let mut stores = Vec::new(alloc);
@@ -32,8 +32,8 @@ pub fn empty(alloc: Global) -> Result<Vec<TenantStore>, Trouble> {
     Ok(stores)
 }
 
-/// What a call of a tenant's store gives: a line `store CALL TENANT GIVEN..`. The error is `NoCase` if the line is
-/// in no form of a case, and `Memory` if memory runs out.
+/// What a call of a tenant's store gives in a case of stores: a line `store CALL TENANT GIVEN..`. The error
+/// is `NoCase` if the line is in no form of a case, and `Memory` if memory runs out.
 pub fn answer(
     alloc: Global,
     stores: &mut [TenantStore],
@@ -62,6 +62,7 @@ pub fn answer(
     }
 }
 
+/// The one name of a file that a call of a case of stores is given.
 fn one_name(alloc: Global, given: &[Vec<u8>]) -> Result<Name, Trouble> {
     let [name] = given else {
         return Err(Trouble::NoCase);
@@ -69,8 +70,8 @@ fn one_name(alloc: Global, given: &[Vec<u8>]) -> Result<Name, Trouble> {
     given_name(alloc, name)
 }
 
-/// `store fill TENANT N BYTES`: puts so many files of these bytes. It gives how many were stored before the
-/// first that wasn't, and the answer to that one.
+/// The call `store fill TENANT N BYTES` of a case of stores: puts so many files of these bytes into the
+/// store. It gives how many were stored before the first that wasn't, and the answer to that one.
 fn fill(alloc: Global, store: &mut TenantStore, given: &[Vec<u8>]) -> Result<Answer, Trouble> {
     let [count, bytes] = given else {
         return Err(Trouble::NoCase);
@@ -86,7 +87,7 @@ fn fill(alloc: Global, store: &mut TenantStore, given: &[Vec<u8>]) -> Result<Ans
     Ok(filled(alloc, count, "stored"))
 }
 
-/// How many files were stored, and the answer after them.
+/// The answer of a case that fills a store: how many files were stored, and the answer after them.
 pub fn filled(alloc: Global, stored: u64, told: &str) -> Answer {
     let mut answer = Answer::new(alloc);
     answer.number(stored);
@@ -94,8 +95,9 @@ pub fn filled(alloc: Global, stored: u64, told: &str) -> Answer {
     answer
 }
 
-/// `store CHANGE stopped TENANT ..`: the change under a limit of 1, 2, 3 .. steps until it isn't stopped. It
-/// gives whether each change that was stopped kept what it is about as it was, and the answer to the last.
+/// The call `store CHANGE stopped TENANT ..` of a case of stores: the change under a limit of 1, 2, 3 ..
+/// steps until it isn't stopped. It gives whether each change that was stopped left the file or the settings
+/// as they were, and the answer to the last.
 fn stopped(alloc: Global, store: &mut TenantStore, change: &Change) -> Result<Answer, Trouble> {
     let was = change.subject(alloc, store)?;
     let mut is_kept = true;
@@ -111,7 +113,8 @@ fn stopped(alloc: Global, store: &mut TenantStore, change: &Change) -> Result<An
     Err(Trouble::NoCase)
 }
 
-/// `never` if the first call wasn't stopped, else `kept` or `changed`; and the answer to the last call.
+/// The answer of a case whose changes of a store are stopped: `never` if the first call wasn't stopped, else
+/// `kept` or `changed`; and the answer to the last call.
 pub fn stops_answer(alloc: Global, limit: u64, is_kept: bool, told: &str) -> Answer {
     let mut answer = Answer::of_word(
         alloc,

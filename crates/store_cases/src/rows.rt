@@ -1,4 +1,4 @@
-//! The rows of an index, in the table of today and in that of the release before.
+//! Cases of the rows of an index in their store, in the table of today and in that of the release before.
 use crate::changes::given_profile;
 use crate::{MOST_LIMITS, stops_answer};
 use case_lines::{Answer, Trouble, as_text};
@@ -7,13 +7,13 @@ use mk_paths::FilesFault;
 use std::alloc::Global;
 use text_parts::put_in_order;
 
-/// `empty rows`
+/// The line `empty rows` of a case of rows: a store without a row.
 pub fn empty(alloc: Global) -> Result<IndexStore, Trouble> {
     Ok(IndexStore::open_in_memory(alloc)?)
 }
 
-/// What a call gives: a line `rows CALL GIVEN..`. The error is `NoCase` if the line is in no form of a case,
-/// and `Memory` if memory runs out.
+/// What a call of a case of rows gives: a line `rows CALL GIVEN..`. The error is `NoCase` if the line is in
+/// no form of a case, and `Memory` if memory runs out.
 pub fn answer(
     alloc: Global,
     rows: &mut IndexStore,
@@ -27,7 +27,7 @@ pub fn answer(
     }
 }
 
-/// What a change tells: `put`, `marked` or `taken`; or `Store`.
+/// What a change of the stored rows tells in a case of rows: `put`, `marked` or `taken`; or `Store`.
 fn change(
     alloc: Global,
     rows: &mut IndexStore,
@@ -52,6 +52,7 @@ fn change(
     }
 }
 
+/// The paths that a case of rows gives, as texts.
 fn texts(alloc: Global, given: &[Vec<u8>]) -> Result<Vec<String>, Trouble> {
     let mut texts = Vec::new(alloc);
     for bytes in given {
@@ -60,8 +61,8 @@ fn texts(alloc: Global, given: &[Vec<u8>]) -> Result<Vec<String>, Trouble> {
     Ok(texts)
 }
 
-/// `rows list`: for each path, in order, whether its row is `fresh` or `stale`, and its bytes; `none` if there
-/// is none.
+/// The call `rows list` of a case of rows: for each path, in order, whether its row is `fresh` or `stale`,
+/// and its bytes; `none` if there is none.
 fn list(alloc: Global, rows: &mut IndexStore) -> Result<Answer, Trouble> {
     let stored = rows.rows(alloc)?;
     let mut paths = rows.paths(alloc)?;
@@ -82,8 +83,9 @@ fn list(alloc: Global, rows: &mut IndexStore) -> Result<Answer, Trouble> {
     Ok(answer)
 }
 
-/// `rows CHANGE stopped ..`: the change under a limit of 1, 2, 3 .. steps until it isn't stopped. It gives
-/// whether each change that was stopped kept all rows as they were, and what the last told.
+/// The call `rows CHANGE stopped ..` of a case of rows: the change under a limit of 1, 2, 3 .. steps until it
+/// isn't stopped. It gives whether each change that was stopped kept all rows as they were, and what the last
+/// told.
 fn stopped(
     alloc: Global,
     rows: &mut IndexStore,

@@ -1,4 +1,4 @@
-//! The trees of conditions.
+//! Cases of conditions: the tree of a condition, as a case shows it.
 use case_lines::{Answer, Trouble, one_text};
 use mk_cond_tree::{
     Call, Comparison, Condition, ConditionError, Conjunction, Side, Term, read_condition,
@@ -7,9 +7,9 @@ use mk_text::Span;
 use std::alloc::{AllocError, Global};
 use std::fmt::Write;
 
-/// `condition TEXT`: its tree as `or(..)` of `and(..)` of terms; or `unclosed`, `unreadable`. A
-/// term is `not(..)`, `group(..)`, a call with its argument in single quotes, or sides. A quoted
-/// side is in single quotes.
+/// The call `condition TEXT` of a case of conditions: the condition's tree as `or(..)` of `and(..)` of terms;
+/// or `unclosed`, `unreadable`. A term is `not(..)`, `group(..)`, a call with its argument in single quotes,
+/// or sides. A quoted side is in single quotes.
 pub fn condition(alloc: Global, given: &[Vec<u8>]) -> Result<Answer, Trouble> {
     let text = one_text(given)?;
     match read_condition(alloc, text) {
@@ -20,13 +20,14 @@ pub fn condition(alloc: Global, given: &[Vec<u8>]) -> Result<Answer, Trouble> {
     }
 }
 
+/// The tree of a condition as the answer of a case of conditions.
 fn condition_answer(alloc: Global, text: &str, condition: &Condition) -> Result<Answer, Trouble> {
     let mut out = String::new(alloc);
     show_condition(&mut out, text, condition)?;
     Ok(Answer::of_word(alloc, out.as_str()))
 }
 
-/// `conjunctions TEXT`: how many conjunctions the condition has.
+/// The call `conjunctions TEXT` of a case of conditions: how many conjunctions the condition has.
 pub fn conjunctions(alloc: Global, given: &[Vec<u8>]) -> Result<Answer, Trouble> {
     let mut answer = Answer::new(alloc);
     if let Ok(condition) = read_condition(alloc, one_text(given)?) {
@@ -35,6 +36,7 @@ pub fn conjunctions(alloc: Global, given: &[Vec<u8>]) -> Result<Answer, Trouble>
     Ok(answer)
 }
 
+/// Shows the tree of a condition in a case: `or(..)` with its conjunctions.
 #[cycle(show)]
 fn show_condition(out: &mut String, text: &str, condition: &Condition) -> Result<(), AllocError> {
     out.push_str("or(")?;
@@ -46,6 +48,7 @@ fn show_condition(out: &mut String, text: &str, condition: &Condition) -> Result
     out.push_str(")")
 }
 
+/// Shows a conjunction of a condition's tree in a case: `and(..)` with its terms.
 #[cycle(show)]
 fn show_conjunction(out: &mut String, text: &str, terms: &Conjunction) -> Result<(), AllocError> {
     out.push_str("and(")?;
@@ -57,6 +60,7 @@ fn show_conjunction(out: &mut String, text: &str, terms: &Conjunction) -> Result
     out.push_str(")")
 }
 
+/// Shows a term of a condition's tree in a case: `not(..)`, `group(..)`, a call, or sides.
 #[cycle(show)]
 fn show_term(out: &mut String, text: &str, term: &Term) -> Result<(), AllocError> {
     match term {
@@ -85,6 +89,7 @@ fn show_term(out: &mut String, text: &str, term: &Term) -> Result<(), AllocError
     }
 }
 
+/// Shows a side of a comparison in a condition's tree in a case: a quoted one in single quotes.
 fn show_side(out: &mut String, text: &str, side: Side) -> Result<(), AllocError> {
     match side {
         Side::Quoted(span) => {
@@ -98,11 +103,12 @@ fn show_side(out: &mut String, text: &str, side: Side) -> Result<(), AllocError>
     }
 }
 
-/// What is at a place of the text.
+/// What is at a place of a condition's text, as a case shows it in the tree, or `no-place`.
 fn at_place(text: &str, span: Span) -> &str {
     text.get(span.start..span.end).unwrap_or("no-place")
 }
 
+/// The word for a call in a condition's tree, as a case shows it.
 fn call_word(call: Call) -> &'static str {
     match call {
         Call::Defined => "defined",
@@ -113,6 +119,7 @@ fn call_word(call: Call) -> &'static str {
     }
 }
 
+/// The sign of a comparison in a condition's tree, as a case shows it.
 fn comparison_sign(comparison: Comparison) -> &'static str {
     match comparison {
         Comparison::Equal => " == ",

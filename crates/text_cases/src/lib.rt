@@ -12,8 +12,8 @@ use mk_text::Profile;
 pub use packages::{add_texts, path_of};
 use std::alloc::Global;
 
-/// What the call of a line gives. The error is `NoCase` if the line is in no form of a case, and
-/// `Memory` if memory runs out.
+/// What the call of a case's line gives, if it is a call of texts, trees, conditions or packages. The error
+/// is `NoCase` if the line is in no form of a case, and `Memory` if memory runs out.
 pub fn answer(alloc: Global, call: &str, given: &[Vec<u8>]) -> Result<Answer, Trouble> {
     match call {
         "lines" => texts::lines_of(alloc, given),
@@ -42,6 +42,7 @@ pub fn answer(alloc: Global, call: &str, given: &[Vec<u8>]) -> Result<Answer, Tr
     }
 }
 
+/// What the call of a case's line gives, if it is a call of packages: of paths, names, versions and specs.
 fn answer_of_packages(alloc: Global, call: &str, given: &[Vec<u8>]) -> Result<Answer, Trouble> {
     match call {
         "path" => packages::canonical_path(alloc, given),

@@ -1,4 +1,4 @@
-//! The layers of packages: paths, names with versions, specs.
+//! Cases of packages: package paths, package names with versions, and package specs.
 use case_lines::{Answer, Trouble, as_text, one_text};
 use pkg_name::{NameFault, PkgName, Version, VersionFault};
 use pkg_path::{PkgPath, PkgPathFault};
@@ -6,8 +6,8 @@ use pkg_spec::{Spec, SpecFault};
 use std::alloc::Global;
 use std::cmp::Ordering;
 
-/// `path TEXT`: its canonical text, and `twice` if reading that gives another path; or
-/// the number of its refusal.
+/// The call `path TEXT` of a case of packages: the canonical text of the package path, and `twice` if reading
+/// that text gives another path; or the number of the path's refusal.
 pub fn canonical_path(alloc: Global, given: &[Vec<u8>]) -> Result<Answer, Trouble> {
     match PkgPath::read(alloc, one_text(given)?) {
         Ok(path) => canonical_answer(alloc, &path),
@@ -16,6 +16,7 @@ pub fn canonical_path(alloc: Global, given: &[Vec<u8>]) -> Result<Answer, Troubl
     }
 }
 
+/// Shows a package path in a case by its canonical text, and `twice` if reading that text gives another path.
 fn canonical_answer(alloc: Global, path: &PkgPath) -> Result<Answer, Trouble> {
     let canonical = path.canonical(alloc)?;
     let mut answer = Answer::of_text(alloc, canonical.as_str());
@@ -25,7 +26,7 @@ fn canonical_answer(alloc: Global, path: &PkgPath) -> Result<Answer, Trouble> {
     Ok(answer)
 }
 
-/// A path that a case gives.
+/// The package path that a case gives as a text. It is `NoCase` if the text is no path.
 pub fn path_of(alloc: Global, text: &str) -> Result<PkgPath, Trouble> {
     PkgPath::read(alloc, text).map_err(|fault| match fault {
         PkgPathFault::Memory(refused) => Trouble::Memory(refused),
@@ -33,15 +34,15 @@ pub fn path_of(alloc: Global, text: &str) -> Result<PkgPath, Trouble> {
     })
 }
 
-/// The answer for a refusal with this number.
+/// The answer of a case of packages whose path or spec is refused, with the number of the refusal.
 fn refused(alloc: Global, number: Option<u8>) -> Answer {
     let mut answer = Answer::of_word(alloc, "refused");
     answer.number(u64::from(number.unwrap_or(0)));
     answer
 }
 
-/// `parts of path TEXT`: its directory, its flavors (or `default`), its subpackage after `sub`,
-/// and what it is without that.
+/// The call `parts of path TEXT` of a case of packages: the directory of the package path, its flavors (or
+/// `default`), its subpackage after `sub`, and the path without that.
 pub fn parts_of_path(alloc: Global, given: &[Vec<u8>]) -> Result<Answer, Trouble> {
     let path = path_of(alloc, one_text(given)?)?;
     let mut answer = Answer::of_text(alloc, path.directory());
@@ -58,14 +59,15 @@ pub fn parts_of_path(alloc: Global, given: &[Vec<u8>]) -> Result<Answer, Trouble
     Ok(answer)
 }
 
-/// Adds texts, each in quotes.
+/// Adds texts, as the flavors of a package path, to the answer of a case, each in quotes.
 pub fn add_texts(answer: &mut Answer, texts: &[String]) {
     for text in texts {
         answer.text(text.as_bytes());
     }
 }
 
-/// `same path TEXT TEXT`: whether they are one path, and whether they print alike.
+/// The call `same path TEXT TEXT` of a case of packages: whether the two texts are one package path, and
+/// whether they print alike.
 pub fn same_path(alloc: Global, given: &[Vec<u8>]) -> Result<Answer, Trouble> {
     let [one, other] = given else {
         return Err(Trouble::NoCase);
@@ -75,6 +77,7 @@ pub fn same_path(alloc: Global, given: &[Vec<u8>]) -> Result<Answer, Trouble> {
     same_answer(alloc, &one, &other)
 }
 
+/// Shows in a case whether two package paths are one, or `both` if they print otherwise than they compare.
 fn same_answer(alloc: Global, one: &PkgPath, other: &PkgPath) -> Result<Answer, Trouble> {
     let printed = format!(in alloc; "{one}")?;
     let alike = printed == format!(in alloc; "{other}")?;
@@ -84,7 +87,8 @@ fn same_answer(alloc: Global, one: &PkgPath, other: &PkgPath) -> Result<Answer, 
     Ok(Answer::of_choice(alloc, alike, "yes", "no"))
 }
 
-/// `package name TEXT`: stem, version and flavors, and how it prints if that is another text; or `NoName`.
+/// The call `package name TEXT` of a case of packages: stem, version and flavors, and how the name prints if
+/// that is another text; or `NoName`.
 pub fn package_name(alloc: Global, given: &[Vec<u8>]) -> Result<Answer, Trouble> {
     let text = one_text(given)?;
     match PkgName::split(alloc, text) {
@@ -94,6 +98,7 @@ pub fn package_name(alloc: Global, given: &[Vec<u8>]) -> Result<Answer, Trouble>
     }
 }
 
+/// Shows a package name in a case: stem, version and flavors, and how it prints if that is another text.
 fn name_answer(alloc: Global, name: &PkgName, text: &str) -> Result<Answer, Trouble> {
     let mut answer = Answer::of_text(alloc, name.stem());
     answer.text(name.version().as_str().as_bytes());
@@ -106,7 +111,7 @@ fn name_answer(alloc: Global, name: &PkgName, text: &str) -> Result<Answer, Trou
     Ok(answer)
 }
 
-/// `version TEXT`: the version as it prints, or `NoVersion`.
+/// The call `version TEXT` of a case of packages: the version of a package as it prints, or `NoVersion`.
 pub fn version(alloc: Global, given: &[Vec<u8>]) -> Result<Answer, Trouble> {
     match Version::read(alloc, one_text(given)?) {
         Ok(version) => version_answer(alloc, &version),
@@ -115,6 +120,7 @@ pub fn version(alloc: Global, given: &[Vec<u8>]) -> Result<Answer, Trouble> {
     }
 }
 
+/// Shows the version of a package in a case as it prints, or `both` if it has another text.
 fn version_answer(alloc: Global, version: &Version) -> Result<Answer, Trouble> {
     if format!(in alloc; "{version}")?.as_str() == version.as_str() {
         Ok(Answer::of_text(alloc, version.as_str()))
@@ -123,7 +129,7 @@ fn version_answer(alloc: Global, version: &Version) -> Result<Answer, Trouble> {
     }
 }
 
-/// A version that a case gives.
+/// The version of a package that a case gives as a text. It is `NoCase` if the text is no version.
 fn version_of(alloc: Global, text: &[u8]) -> Result<Version, Trouble> {
     Version::read(alloc, as_text(text)?).map_err(|fault| match fault {
         VersionFault::Memory(refused) => Trouble::Memory(refused),
@@ -131,8 +137,8 @@ fn version_of(alloc: Global, text: &[u8]) -> Result<Version, Trouble> {
     })
 }
 
-/// `version order TEXT..`: `rising` if each is lower than each later one and equal to itself, however two
-/// are compared; else the first two that aren't.
+/// The call `version order TEXT..` of a case of packages: `rising` if each version is lower than each later
+/// one and equal to itself, however two are compared; else the first two that aren't.
 pub fn version_order(alloc: Global, given: &[Vec<u8>]) -> Result<Answer, Trouble> {
     let mut versions = Vec::new(alloc);
     for text in given {
@@ -141,6 +147,7 @@ pub fn version_order(alloc: Global, given: &[Vec<u8>]) -> Result<Answer, Trouble
     Ok(order_answer(alloc, versions.as_slice()))
 }
 
+/// Shows in a case of packages whether versions rise: `rising`, or the first two that don't.
 fn order_answer(alloc: Global, versions: &[Version]) -> Answer {
     for (place, one) in versions.iter().enumerate() {
         for (other_place, other) in versions.iter().enumerate() {
@@ -154,14 +161,15 @@ fn order_answer(alloc: Global, versions: &[Version]) -> Answer {
     Answer::of_word(alloc, "rising")
 }
 
-/// Whether every comparison of the two gives this order.
+/// Whether every comparison of two versions of packages gives this order, for a case.
 fn is_ordered(one: &Version, other: &Version, order: Ordering) -> bool {
     one.cmp(other) == order
         && (*one < *other) == (order == Ordering::Less)
         && (*one == *other) == (order == Ordering::Equal)
 }
 
-/// `spec TEXT NAME..`: those of the names that the spec admits; or the number of its refusal.
+/// The call `spec TEXT NAME..` of a case of packages: those of the package names that the spec admits; or the
+/// number of the spec's refusal.
 pub fn spec(alloc: Global, given: &[Vec<u8>]) -> Result<Answer, Trouble> {
     let [text, names @ ..] = given else {
         return Err(Trouble::NoCase);
@@ -174,6 +182,7 @@ pub fn spec(alloc: Global, given: &[Vec<u8>]) -> Result<Answer, Trouble> {
     }
 }
 
+/// Shows in a case of packages the names that a spec admits, and how the spec prints if that is another text.
 fn spec_answer(
     alloc: Global,
     spec: &Spec,
@@ -194,6 +203,7 @@ fn spec_answer(
     Ok(answer)
 }
 
+/// Whether a spec admits the package name that a case gives as a text. It is `NoCase` if the text is no name.
 fn is_admitted(alloc: Global, spec: &Spec, name: &[u8]) -> Result<bool, Trouble> {
     match PkgName::split(alloc, as_text(name)?) {
         Ok(name) => Ok(spec.matches(&name)),

@@ -1,4 +1,4 @@
-//! The layers of texts: lines, words, references, patterns, modifiers, kinds of lines.
+//! Cases of texts: lines, words, blanks, references, patterns, modifiers, kinds of lines.
 use case_lines::{Answer, Trouble, as_text, one_text};
 use mk_ast::{LineKind, is_word, line_kind, plain_kind};
 use mk_glob::glob;
@@ -8,8 +8,8 @@ use mk_text::{Profile, TextFault, is_blank, logical_lines, skip_blanks, trim_bla
 use std::alloc::{AllocError, Global};
 use std::fmt::Write;
 
-/// `lines TEXT`: each logical line as its number with a colon and its text. A command has a
-/// bar in place of the colon.
+/// The call `lines TEXT` of a case of texts: each logical line as its number with a colon and its text. A
+/// command has a bar in place of the colon.
 pub fn lines_of(alloc: Global, given: &[Vec<u8>]) -> Result<Answer, Trouble> {
     let mut answer = Answer::new(alloc);
     for logical in &logical_lines(alloc, one_text(given)?)? {
@@ -21,7 +21,7 @@ pub fn lines_of(alloc: Global, given: &[Vec<u8>]) -> Result<Answer, Trouble> {
     Ok(answer)
 }
 
-/// `words TEXT`: the words.
+/// The call `words TEXT` of a case of texts: the words of the text.
 pub fn words_of(alloc: Global, given: &[Vec<u8>]) -> Result<Answer, Trouble> {
     let text = one_text(given)?;
     let mut answer = Answer::new(alloc);
@@ -31,7 +31,7 @@ pub fn words_of(alloc: Global, given: &[Vec<u8>]) -> Result<Answer, Trouble> {
     Ok(answer)
 }
 
-/// `trim TEXT`, `skip TEXT`: the text without blanks at both ends, or in front.
+/// The calls `trim TEXT`, `skip TEXT` of a case of texts: the text without blanks at both ends, or in front.
 pub fn without_blanks(alloc: Global, given: &[Vec<u8>], both: bool) -> Result<Answer, Trouble> {
     let text = one_text(given)?;
     let rest = if both {
@@ -42,7 +42,7 @@ pub fn without_blanks(alloc: Global, given: &[Vec<u8>], both: bool) -> Result<An
     Ok(Answer::of_text(alloc, rest))
 }
 
-/// `blanks`: the bytes that are blanks.
+/// The call `blanks` of a case of texts: the bytes that are blanks.
 pub fn blanks(alloc: Global) -> Answer {
     let mut answer = Answer::new(alloc);
     for byte in 0..=255u8 {
@@ -53,8 +53,8 @@ pub fn blanks(alloc: Global) -> Answer {
     answer
 }
 
-/// `pieces TEXT`: each literal as it is, a pair after `pair`, a reference after `reference`
-/// with its name and modifiers. If a reference doesn't end, it is `unclosed at` with the byte
+/// The call `pieces TEXT` of a case of texts: each literal as it is, a pair after `pair`, a reference after
+/// `reference` with its name and modifiers. If a reference doesn't end, it is `unclosed at` with the byte
 /// where that reference begins.
 pub fn pieces_of(alloc: Global, given: &[Vec<u8>]) -> Result<Answer, Trouble> {
     let text = one_text(given)?;
@@ -69,6 +69,7 @@ pub fn pieces_of(alloc: Global, given: &[Vec<u8>]) -> Result<Answer, Trouble> {
     }
 }
 
+/// Shows the pieces of a text in a case of texts: literals, pairs and references.
 fn pieces_answer(alloc: Global, text: &str, pieces: &[Piece]) -> Answer {
     let mut answer = Answer::new(alloc);
     for piece in pieces {
@@ -77,6 +78,8 @@ fn pieces_answer(alloc: Global, text: &str, pieces: &[Piece]) -> Answer {
     answer
 }
 
+/// Adds a piece of a text to the answer of a case of texts: a literal as it is, a pair and a reference after
+/// their words.
 fn add_piece(answer: &mut Answer, text: &str, piece: Piece) {
     match piece {
         Piece::Literal(span) => add_place(answer, text, span.start, span.end),
@@ -97,7 +100,7 @@ fn add_piece(answer: &mut Answer, text: &str, piece: Piece) {
     }
 }
 
-/// Adds what is at a place of the text.
+/// Adds to the answer of a case of texts what is at a place of the text, or `no-place`.
 fn add_place(answer: &mut Answer, text: &str, start: usize, end: usize) {
     match text.get(start..end) {
         Some(found) => answer.text(found.as_bytes()),
@@ -105,7 +108,7 @@ fn add_place(answer: &mut Answer, text: &str, start: usize, end: usize) {
     }
 }
 
-/// `number of pieces TEXT`
+/// The call `number of pieces TEXT` of a case of texts: how many literals, pairs and references the text has.
 pub fn number_of_pieces(alloc: Global, given: &[Vec<u8>]) -> Result<Answer, Trouble> {
     let mut answer = Answer::new(alloc);
     if let Ok(found) = pieces(alloc, one_text(given)?) {
@@ -114,14 +117,14 @@ pub fn number_of_pieces(alloc: Global, given: &[Vec<u8>]) -> Result<Answer, Trou
     Ok(answer)
 }
 
-/// `outside TEXT`: the text with dollars in place of its references.
+/// The call `outside TEXT` of a case of texts: the text with dollars in place of its references.
 pub fn outside_references(alloc: Global, given: &[Vec<u8>]) -> Result<Answer, Trouble> {
     let mut answer = Answer::new(alloc);
     answer.text(outside(alloc, one_text(given)?)?.as_slice());
     Ok(answer)
 }
 
-/// `glob PATTERN WORD`: `fits` or `no`.
+/// The call `glob PATTERN WORD` of a case of texts: `fits` or `no`, by whether the pattern fits the word.
 pub fn fits(alloc: Global, given: &[Vec<u8>]) -> Result<Answer, Trouble> {
     let [pattern, word] = given else {
         return Err(Trouble::NoCase);
@@ -130,8 +133,8 @@ pub fn fits(alloc: Global, given: &[Vec<u8>]) -> Result<Answer, Trouble> {
     Ok(Answer::of_choice(alloc, holds, "fits", "no"))
 }
 
-/// `modifiers MODIFIERS of VALUE`: what they make of it in this profile, one after another; or `BadMod`,
-/// `Length`, or `Reference` if one isn't expanded.
+/// The call `modifiers MODIFIERS of VALUE` of a case of texts: what the modifiers make of the value in this
+/// profile, one after another; or `BadMod`, `Length`, or `Reference` if one isn't expanded.
 pub fn modified(alloc: Global, profile: Profile, given: &[Vec<u8>]) -> Result<Answer, Trouble> {
     let [text, value] = given else {
         return Err(Trouble::NoCase);
@@ -143,7 +146,8 @@ pub fn modified(alloc: Global, profile: Profile, given: &[Vec<u8>]) -> Result<An
     }
 }
 
-/// What modifiers make of a value.
+/// What modifiers make of a value in a case of texts, one after another; or `Length`, or `Reference` if one
+/// isn't expanded.
 fn applied(alloc: Global, mods: &Mods, value: &str) -> Result<Answer, Trouble> {
     let mut made = String::from_str(alloc, value)?;
     for modifier in &mods.modifiers {
@@ -159,7 +163,7 @@ fn applied(alloc: Global, mods: &Mods, value: &str) -> Result<Answer, Trouble> {
     Ok(Answer::of_text(alloc, made.as_str()))
 }
 
-/// The modifiers that a text is in this profile. `None` if it is no modifiers.
+/// The modifiers that a case of texts gives as a text, read in this profile. `None` if it is no modifiers.
 fn read_modifiers(alloc: Global, text: &str, profile: Profile) -> Result<Option<Mods>, Trouble> {
     match Mods::read(alloc, text, profile) {
         Ok(mods) => Ok(Some(mods)),
@@ -168,8 +172,8 @@ fn read_modifiers(alloc: Global, text: &str, profile: Profile) -> Result<Option<
     }
 }
 
-/// `substitute MODIFIERS OLD NEW in VALUE`: what a `:S` makes of the value with these texts as old
-/// and new.
+/// The call `substitute MODIFIERS OLD NEW in VALUE` of a case of texts: what a `:S` makes of the value with
+/// these texts as old and new.
 pub fn substituted(alloc: Global, given: &[Vec<u8>]) -> Result<Answer, Trouble> {
     let [text, old, new, value] = given else {
         return Err(Trouble::NoCase);
@@ -192,9 +196,10 @@ pub fn substituted(alloc: Global, given: &[Vec<u8>]) -> Result<Answer, Trouble> 
     Ok(answer)
 }
 
-/// `modifiers as read MODIFIERS`: `M` and `N` with the pattern in single quotes; a `:S` with its old and
-/// new text; `old=new` with both texts in single quotes; the others by their names. In a `:S` texts are in
-/// single quotes, the old text is `&`, and references are between `<` and `>`.
+/// The call `modifiers as read MODIFIERS` of a case of texts: the modifiers one after another. `M` and `N`
+/// have the pattern in single quotes, a `:S` has its old and new text, `old=new` has both texts in single
+/// quotes, and the others have their names. In a `:S` texts are in single quotes, the old text is `&`, and
+/// references are between `<` and `>`.
 pub fn modifiers_as_read(
     alloc: Global,
     profile: Profile,
@@ -210,6 +215,7 @@ pub fn modifiers_as_read(
     Ok(answer)
 }
 
+/// Shows a modifier as it is read, in a case of texts.
 fn shown_modifier(alloc: Global, modifier: &Modifier) -> Result<String, AllocError> {
     match modifier {
         Modifier::Match(pattern) => format!(in alloc; "M'{pattern}'"),
@@ -220,6 +226,7 @@ fn shown_modifier(alloc: Global, modifier: &Modifier) -> Result<String, AllocErr
     }
 }
 
+/// Shows a `:S` modifier as it is read, in a case of texts: its old and new text with its flags.
 fn shown_substitution(alloc: Global, substitution: &Substitution) -> Result<String, AllocError> {
     let old = shown_parts(alloc, &substitution.old)?;
     let new = shown_parts(alloc, &substitution.new)?;
@@ -230,6 +237,8 @@ fn shown_substitution(alloc: Global, substitution: &Substitution) -> Result<Stri
     format!(in alloc; "S{starts}{old}{ends}/{new}/{every}{once}")
 }
 
+/// Shows the old or new text of a `:S` modifier as it is read, in a case of texts: texts in single quotes,
+/// `&`, and references between `<` and `>`.
 fn shown_parts(alloc: Global, parts: &[Part]) -> Result<String, AllocError> {
     let mut out = String::new(alloc);
     for part in parts {
@@ -242,19 +251,22 @@ fn shown_parts(alloc: Global, parts: &[Part]) -> Result<String, AllocError> {
     Ok(out)
 }
 
-/// `line TEXT`: the kind of the line; of a directive with what follows its word, of an
-/// assignment with its name and value.
+/// The call `line TEXT` of a case of texts: the kind of the line; of a directive with what follows its word,
+/// of an assignment with its name and value.
 pub fn kind_of_line(alloc: Global, given: &[Vec<u8>]) -> Result<Answer, Trouble> {
     let kind = line_kind(alloc, one_text(given)?)?;
     Ok(kind_answer(alloc, kind))
 }
 
-/// `plain line TEXT`: the same of a line that can be neither a command nor a directive.
+/// The call `plain line TEXT` of a case of texts: the kind of a line that can be neither a command nor a
+/// directive, shown as by `line`.
 pub fn plain_kind_of_line(alloc: Global, given: &[Vec<u8>]) -> Result<Answer, Trouble> {
     let kind = plain_kind(alloc, one_text(given)?)?;
     Ok(kind_answer(alloc, kind))
 }
 
+/// Shows the kind of a line in a case of texts, with what follows a directive's word or with an assignment's
+/// name and value.
 fn kind_answer(alloc: Global, kind: LineKind<'_>) -> Answer {
     let mut answer = Answer::new(alloc);
     match kind {
@@ -279,7 +291,7 @@ fn kind_answer(alloc: Global, kind: LineKind<'_>) -> Answer {
     answer
 }
 
-/// `word TEXT`: whether it is one word.
+/// The call `word TEXT` of a case of texts: whether the text is one word.
 pub fn one_word(alloc: Global, given: &[Vec<u8>]) -> Result<Answer, Trouble> {
     let is_one = is_word(one_text(given)?);
     Ok(Answer::of_choice(alloc, is_one, "yes", "no"))

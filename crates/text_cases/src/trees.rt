@@ -1,12 +1,13 @@
-//! The trees of makefiles.
+//! Cases of trees: the tree of a makefile's blocks and lines, as a case shows it.
 use case_lines::{Answer, Trouble};
 use mk_ast::{Node, ParseError, ParseFault, parse};
 use mk_text::Logical;
 use std::alloc::{AllocError, Global};
 use std::fmt::Write;
 
-/// `tree MAKEFILE`: its nodes in order with semicolons between them; or its fault. A line is `line N` by
-/// its number, a choice is `if N {..} elif N {..} else {..}`, a loop is `for N {..}`.
+/// The call `tree MAKEFILE` of a case of trees: the makefile's nodes in order with semicolons between them;
+/// or its fault. A line is `line N` by its number, a choice is `if N {..} elif N {..} else {..}`, a loop is
+/// `for N {..}`.
 pub fn tree_of(alloc: Global, given: &[Vec<u8>]) -> Result<Answer, Trouble> {
     let [bytes] = given else {
         return Err(Trouble::NoCase);
@@ -21,12 +22,14 @@ pub fn tree_of(alloc: Global, given: &[Vec<u8>]) -> Result<Answer, Trouble> {
     Ok(Answer::of_word(alloc, shown.as_str()))
 }
 
+/// The nodes of a block in a makefile's tree, as a case of trees shows them.
 fn shown_block(alloc: Global, nodes: &[Node]) -> Result<String, AllocError> {
     let mut out = String::new(alloc);
     show_block(&mut out, nodes)?;
     Ok(out)
 }
 
+/// Shows the nodes of a block in a makefile's tree in a case, with semicolons between them.
 #[cycle(show)]
 fn show_block(out: &mut String, nodes: &[Node]) -> Result<(), AllocError> {
     let mut first = true;
@@ -40,6 +43,7 @@ fn show_block(out: &mut String, nodes: &[Node]) -> Result<(), AllocError> {
     Ok(())
 }
 
+/// Shows a node of a makefile's tree in a case: a line, a choice or a loop.
 #[cycle(show)]
 fn show_node(out: &mut String, node: &Node) -> Result<(), AllocError> {
     match node {
@@ -74,7 +78,8 @@ fn show_node(out: &mut String, node: &Node) -> Result<(), AllocError> {
     }
 }
 
-/// The beginning of a block.
+/// Shows the beginning of a block in a makefile's tree in a case: its word, the number of its line, and a
+/// brace.
 fn show_frame(out: &mut String, word: &str, head: &Logical) -> Result<(), AllocError> {
     let number = head.line();
     write!(out, "{word} {number} {{")

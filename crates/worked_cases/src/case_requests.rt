@@ -1,4 +1,5 @@
-//! The service over its store: requests in a row, each on a connection of its own.
+//! Case requests: requests of worked cases to the service over its store, in a row, each on a connection of
+//! its own.
 use crate::plain_requests::reply_answer;
 use crate::request_turns::{self, Counted, Limit, take_turns};
 use crate::service::StoredService;
@@ -9,10 +10,10 @@ use ports_http::{Method, Reply};
 use std::alloc::Global;
 use store_cases::{MOST_LIMITS, filled, stops_answer};
 
-/// The keys of the tenants, by their numbers.
+/// The keys of the tenants that make case requests, by their numbers.
 const KEYS: [&str; 2] = ["alpha", "beta"];
 
-/// What a tenant asks.
+/// A case request: what a tenant asks the service in a worked case.
 #[derive(Clone, Copy)]
 pub struct CaseRequest<'a> {
     pub tenant: usize,
@@ -22,7 +23,7 @@ pub struct CaseRequest<'a> {
 }
 
 impl<'a> CaseRequest<'a> {
-    /// The request that a line asks for: its tenant is a number, and its target a text.
+    /// The case request that a line asks for: its tenant is a number, and its target a text.
     pub fn read(
         method: Method,
         tenant: &[u8],
@@ -38,15 +39,16 @@ impl<'a> CaseRequest<'a> {
     }
 }
 
-/// How many parses and evaluations are kept if a line doesn't say.
+/// How many parses and evaluations the service for case requests keeps if a line doesn't say.
 const SIZES: (u32, u32) = (256, 1024);
 
-/// `new service`, `new service PARSES EVALS`: for the tenants 0 and 1, with a cache of these sizes.
+/// The lines `new service`, `new service PARSES EVALS` of a worked case: a service for the tenants 0 and 1,
+/// with a cache of these sizes.
 pub fn new(alloc: Global, given: &[Vec<u8>]) -> Result<StoredService, Trouble> {
     Service::new(alloc, config(alloc, given)?).map_err(|_| Trouble::NoCase)
 }
 
-/// The config of the tenants 0 and 1, with a cache of these sizes.
+/// The config of the service for case requests: the tenants 0 and 1, with a cache of these sizes.
 pub fn config(alloc: Global, given: &[Vec<u8>]) -> Result<Config, Trouble> {
     let mut keys = Vec::new(alloc);
     for key in KEYS {
@@ -60,6 +62,7 @@ pub fn config(alloc: Global, given: &[Vec<u8>]) -> Result<Config, Trouble> {
     })
 }
 
+/// The sizes of the cache that a worked case gives to the service for case requests.
 fn sizes(given: &[Vec<u8>]) -> Result<(u32, u32), Trouble> {
     match given {
         [] => Ok(SIZES),
@@ -68,6 +71,7 @@ fn sizes(given: &[Vec<u8>]) -> Result<(u32, u32), Trouble> {
     }
 }
 
+/// One size of the cache that a worked case gives to the service for case requests.
 fn size(given: &[u8]) -> Result<u32, Trouble> {
     let size = as_number(given)?;
     if size > u32::MAX as u64 {
@@ -76,7 +80,7 @@ fn size(given: &[u8]) -> Result<u32, Trouble> {
     Ok(size as u32)
 }
 
-/// What the service answers to requests.
+/// What a call `service ..` of a worked case gives: what the service answers to case requests.
 pub fn answer(
     alloc: Global,
     service: &mut StoredService,
@@ -104,8 +108,8 @@ pub fn answer(
     }
 }
 
-/// `service GET TENANT TARGET`, `service PUT TENANT TARGET BODY`, `service DELETE TENANT TARGET`: the
-/// reply.
+/// The calls `service GET TENANT TARGET`, `service PUT TENANT TARGET BODY`, `service DELETE TENANT TARGET` of
+/// a worked case: the service's reply to the case request.
 fn asked_answer(
     alloc: Global,
     service: &mut StoredService,
@@ -123,8 +127,8 @@ fn asked_answer(
     Ok(reply_answer(alloc, &reply))
 }
 
-/// `service units TENANT TARGET`: the status of a GET, and how many units and checked answers all its turns
-/// tell.
+/// The call `service units TENANT TARGET` of a worked case: the status of a GET, and how many units and
+/// checked answers all turns of this case request tell.
 fn units_answer(
     alloc: Global,
     service: &mut StoredService,
@@ -141,7 +145,8 @@ fn units_answer(
     Ok(answer)
 }
 
-/// `service counts`: how often a parse was used that was kept, and how often an evaluation.
+/// The call `service counts` of a worked case: how often the service used a parse that was kept, and how
+/// often an evaluation that was kept.
 fn counts_answer(
     alloc: Global,
     service: &StoredService,
@@ -157,7 +162,7 @@ fn counts_answer(
     Ok(answer)
 }
 
-/// The reply to a request on a new connection, which is lost after the request.
+/// The service's reply to a case request on a new connection, which is lost after the reply.
 pub fn ask(
     alloc: Global,
     service: &mut StoredService,
@@ -167,7 +172,8 @@ pub fn ask(
     Ok(told.reply)
 }
 
-/// The same, with what each of its turns tells as spent. In some turns the store's steps are limited.
+/// The service's reply to a case request on a new connection, with what each turn of the request tells as
+/// spent. In some turns the store's steps are limited.
 pub fn ask_within(
     alloc: Global,
     service: &mut StoredService,
@@ -180,7 +186,7 @@ pub fn ask_within(
     Ok(counted)
 }
 
-/// Sends a request on a new connection, whose number it gives.
+/// Sends a case request to the service on a new connection, whose number it gives.
 pub fn send(
     alloc: Global,
     service: &mut StoredService,
@@ -193,7 +199,8 @@ pub fn send(
     Ok(conn)
 }
 
-/// What an event tells.
+/// What an event tells in the service of a worked case. It is `NoCase` if the service doesn't allow the
+/// event.
 pub fn happen(service: &mut StoredService, event: &Event) -> Result<Told, Trouble> {
     if !service.allows(event) {
         return Err(Trouble::NoCase);
@@ -201,7 +208,7 @@ pub fn happen(service: &mut StoredService, event: &Event) -> Result<Told, Troubl
     Ok(service.step(event))
 }
 
-/// The bytes of a request.
+/// The bytes of a case request as a stream has them.
 fn stream_of(alloc: Global, request: CaseRequest<'_>) -> Result<Vec<u8>, Trouble> {
     let Some(key) = KEYS.get(request.tenant) else {
         return Err(Trouble::NoCase);
@@ -215,8 +222,8 @@ fn stream_of(alloc: Global, request: CaseRequest<'_>) -> Result<Vec<u8>, Trouble
     Ok(bytes)
 }
 
-/// `service fill TENANT N BYTES`: how many of N files of these bytes are stored, and the
-/// reply to the first that isn't.
+/// The call `service fill TENANT N BYTES` of a worked case: how many of N files of these bytes are stored by
+/// case requests, and the reply to the first that isn't.
 fn fill(alloc: Global, service: &mut StoredService, given: &[Vec<u8>]) -> Result<Answer, Trouble> {
     let [tenant, count, body] = given else {
         return Err(Trouble::NoCase);
@@ -235,10 +242,10 @@ fn fill(alloc: Global, service: &mut StoredService, given: &[Vec<u8>]) -> Result
     Ok(filled(alloc, count, "stored"))
 }
 
-/// `service PUT stopped TENANT TARGET BODY by PROBE`, `service DELETE stopped TENANT TARGET by PROBE`: the
-/// request under a limit of 1, 2, 3 .. steps of the store until it isn't answered 503. It gives whether a
-/// GET of the probe gave after each 503 what it gave before, and each 503 told nothing as spent; and the last
-/// status.
+/// The calls `service PUT stopped TENANT TARGET BODY by PROBE`,
+/// `service DELETE stopped TENANT TARGET by PROBE` of a worked case: the case request under a limit of 1, 2,
+/// 3 .. steps of the store until it isn't answered 503. It gives whether a GET of the probe gave after each
+/// 503 what it gave before, and each 503 told nothing as spent; and the last status.
 fn stopped(
     alloc: Global,
     service: &mut StoredService,
@@ -257,6 +264,8 @@ fn stopped(
     stopped_by(alloc, service, request, probe)
 }
 
+/// Makes a case request under a limit of 1, 2, 3 .. steps of the store until it isn't answered 503, with a
+/// GET of the probe before the first and after each 503.
 fn stopped_by(
     alloc: Global,
     service: &mut StoredService,
@@ -276,8 +285,8 @@ fn stopped_by(
     Err(Trouble::NoCase)
 }
 
-/// `service GET stopped TENANT TARGET longer than TARGET`: `longer`, if the first GET is answered 503 under a
-/// limit of more steps than the second, and else `no longer`.
+/// The call `service GET stopped TENANT TARGET longer than TARGET` of a worked case: `longer`, if the first
+/// case request is answered 503 under a limit of more steps than the second, and else `no longer`.
 fn stopped_longer(
     alloc: Global,
     service: &mut StoredService,
@@ -292,7 +301,7 @@ fn stopped_longer(
     Ok(Answer::of_word(alloc, if is_longer { "longer" } else { "no longer" }))
 }
 
-/// The least limit of steps under which a request isn't answered 503.
+/// The least limit of the store's steps under which a case request isn't answered 503.
 fn steps_needed(
     alloc: Global,
     service: &mut StoredService,

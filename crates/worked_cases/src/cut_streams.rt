@@ -1,4 +1,4 @@
-//! Streams that are cut anywhere.
+//! Worked cases of cut streams: a stream ends after any of its bytes, or comes byte by byte.
 use crate::case_requests::{config, happen};
 use crate::service::service_of_one;
 use case_lines::{Answer, Trouble};
@@ -7,13 +7,15 @@ use portsd_text::read_script;
 use std::alloc::Global;
 use stored_tenants::StoredTenants;
 
-/// More turns and writes than the requests of a case take.
+/// More turns and writes than the requests of a cut stream take.
 const MOST_TURNS: usize = 20;
 
-/// `ends of STREAM`: how many replies are told to a client that sends a stream for the tenant `alpha` and no more, if the
-/// stream ends after each of its bytes. For each number of replies it gives the length of the shortest such stream before
-/// the number, and then what is sent to the whole one. Before that comes `wrong` with a length, if the client is sent
-/// anything but a front of that, or if its connection isn't closed in the end.
+/// The call `ends of STREAM` of a worked case of cut streams: how many replies are told to a client of the
+/// tenant `alpha`, if its stream ends after each of its bytes.
+///
+/// For each number of replies it gives the length of the shortest such stream before the number, and then
+/// what is sent to the whole one. Before that comes `wrong` with a length, if the client is sent anything but
+/// a front of that, or if its connection isn't closed in the end.
 pub fn ends_of(alloc: Global, given: &[Vec<u8>]) -> Result<Answer, Trouble> {
     let [stream] = given else {
         return Err(Trouble::NoCase);
@@ -37,7 +39,7 @@ pub fn ends_of(alloc: Global, given: &[Vec<u8>]) -> Result<Answer, Trouble> {
     Ok(answer)
 }
 
-/// What became of a connection whose stream ended.
+/// What became of a connection whose cut stream ended.
 #[derive(Drop)]
 struct Ended {
     replies: u64,
@@ -46,6 +48,7 @@ struct Ended {
 }
 
 impl Ended {
+    /// Notes what an event tells of a connection whose cut stream ended: a reply, or that it is closed.
     fn note(&mut self, told: Told) {
         let Told { reply, closed, .. } = told;
         if reply.is_some() {
@@ -55,7 +58,7 @@ impl Ended {
     }
 }
 
-/// What becomes of the connection 0 if its stream is this.
+/// What becomes of the connection 0 if this cut stream comes on it and ends.
 fn ended_after(alloc: Global, stream: &[u8]) -> Result<Ended, Trouble> {
     let mut service = service_of_one(alloc)?;
     let mut ended = Ended {
@@ -78,8 +81,9 @@ fn ended_after(alloc: Global, stream: &[u8]) -> Result<Ended, Trouble> {
     Ok(ended)
 }
 
-/// `by bytes SCRIPT`: the statuses that a script for the tenants `alpha` and `beta` tells, each byte of which comes in a
-/// piece of its own. Then it gives `differs` if the script as it is tells others or sends other bytes.
+/// The call `by bytes SCRIPT` of a worked case of cut streams: the statuses that a script for the tenants
+/// `alpha` and `beta` tells, if each byte of its streams comes in a piece of its own. Then it gives `differs`
+/// if the script as it is tells others or sends other bytes.
 pub fn by_bytes(alloc: Global, given: &[Vec<u8>]) -> Result<Answer, Trouble> {
     let [script] = given else {
         return Err(Trouble::NoCase);
@@ -98,13 +102,14 @@ pub fn by_bytes(alloc: Global, given: &[Vec<u8>]) -> Result<Answer, Trouble> {
     Ok(answer)
 }
 
+/// The events of the script that a worked case of cut streams gives.
 fn events_of(alloc: Global, script: &[u8]) -> Result<Vec<Event>, Trouble> {
     let mut input = script;
     let script = read_script(alloc, &mut input).map_err(|_| Trouble::NoCase)?;
     Ok(script.events)
 }
 
-/// The same events with each piece cut into its bytes.
+/// These events with each piece of a stream cut into its bytes.
 fn in_bytes(alloc: Global, events: Vec<Event>) -> Result<Vec<Event>, Trouble> {
     let mut cut = Vec::new(alloc);
     for event in events {
@@ -119,7 +124,7 @@ fn in_bytes(alloc: Global, events: Vec<Event>) -> Result<Vec<Event>, Trouble> {
     Ok(cut)
 }
 
-/// What clients heard in a run.
+/// What clients heard in a run of a script, whose streams may be cut.
 #[derive(Drop)]
 struct Heard {
     statuses: Answer,
@@ -127,6 +132,8 @@ struct Heard {
     sent: Vec<u8>,
 }
 
+/// What clients hear if these events happen, with streams cut or whole: the statuses that are told, and the
+/// bytes that are sent.
 fn hear(alloc: Global, events: Vec<Event>) -> Result<Heard, Trouble> {
     let replayed = replay::<StoredTenants>(alloc, config(alloc, &[])?, events.as_slice());
     let Ok(Transcript { steps, .. }) = replayed else {

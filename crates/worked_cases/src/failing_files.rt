@@ -1,4 +1,4 @@
-//! Requests over files that fail.
+//! Worked cases of requests over failing files: a plain reply, and the first turn of a request.
 ghost use Rattle.std.specs.Prelude.{◌≡◌, IfOk};
 ghost use Rattle.mk_paths.specs.FilesView.{view_world};
 ghost use Rattle.mk_paths.specs.World as worlds;
@@ -22,8 +22,9 @@ use ports_http::Method;
 use question_turns::{Turned, UnderWay};
 use std::alloc::Global;
 
-/// `GET failing TARGET`: the status and the body of the plain reply over the world, in files that fail at each of their
-/// calls in turn. Before that, how many calls there are.
+/// The call `GET failing TARGET` of a worked case over failing files: the status and the body of the plain
+/// reply over the world, in files that fail at each of their calls in turn. Before that, how many calls there
+/// are.
 pub fn answered(alloc: Global, world: &mut World, given: &[Vec<u8>]) -> Result<Answer, Trouble> {
     let target = one_text(given)?;
     let World {
@@ -34,7 +35,7 @@ pub fn answered(alloc: Global, world: &mut World, given: &[Vec<u8>]) -> Result<A
     failing_answer(alloc, files, &mut Getting { settings, target })
 }
 
-/// A GET of a target.
+/// A GET request of a worked case over failing files.
 #[derive(Drop)]
 struct Getting<'a> {
     settings: &'a Settings,
@@ -42,6 +43,7 @@ struct Getting<'a> {
 }
 
 impl Asking for Getting<'_> {
+    /// The plain reply to the GET request of a worked case over failing files.
     fn ask(
         &mut self,
         alloc: Global,
@@ -51,7 +53,7 @@ impl Asking for Getting<'_> {
     }
 }
 
-/// The status and the body of the plain reply to a GET over these files.
+/// The status and the body of the plain reply to a GET request over files that may fail.
 fn answer_to<F: Listing>(
     alloc: Global,
     files: &mut F,
@@ -63,8 +65,9 @@ fn answer_to<F: Listing>(
     Ok(reply_answer(alloc, &prepared.reply))
 }
 
-/// `turn failing TARGET`: the same of the first turn of the GET, over an index and a cache that keep nothing yet. If that
-/// turn has no answer, it is `more`.
+/// The call `turn failing TARGET` of a worked case over failing files: the status and the body that the first
+/// turn of the GET tells, in files that fail at each of their calls in turn. Before that, how many calls
+/// there are. The index and the cache keep nothing yet. If that turn has no answer, it is `more`.
 pub fn turned(alloc: Global, world: &mut World, given: &[Vec<u8>]) -> Result<Answer, Trouble> {
     let target = one_text(given)?;
     let World {
@@ -75,7 +78,7 @@ pub fn turned(alloc: Global, world: &mut World, given: &[Vec<u8>]) -> Result<Ans
     failing_answer(alloc, files, &mut Turning { settings, target })
 }
 
-/// The first turn of a GET of a target.
+/// The first turn of a GET request of a worked case over failing files.
 #[derive(Drop)]
 struct Turning<'a> {
     settings: &'a Settings,
@@ -83,6 +86,7 @@ struct Turning<'a> {
 }
 
 impl Asking for Turning<'_> {
+    /// The reply that the first turn of the GET request of a worked case tells over failing files, or `more`.
     fn ask(
         &mut self,
         alloc: Global,
@@ -92,7 +96,8 @@ impl Asking for Turning<'_> {
     }
 }
 
-/// The status and the body of the reply to a GET over these files, if it is answered in its first turn.
+/// The status and the body of the reply to a GET request over files that may fail, if it is answered in its
+/// first turn, and else `more`.
 fn turn_to<F: Listing>(
     alloc: Global,
     files: &mut F,
@@ -109,7 +114,8 @@ fn turn_to<F: Listing>(
     }
 }
 
-/// The status and the body of the reply if this question is answered in its first turn, and else `more`.
+/// The status and the body of the reply over files that may fail, if this question is answered in its first
+/// turn, and else `more`.
 fn first_turn<F: Listing>(
     alloc: Global,
     files: &mut F,
@@ -124,7 +130,8 @@ fn first_turn<F: Listing>(
     turn_over(alloc, files, settings, under_way, &mut cache, &mut keeper)
 }
 
-/// The same over this cache and this keeper.
+/// The status and the body of the reply over files that may fail, with this cache and this keeper, if this
+/// question is answered in its first turn, and else `more`.
 fn turn_over<F: Listing>(
     alloc: Global,
     files: &mut F,
@@ -143,7 +150,7 @@ fn turn_over<F: Listing>(
     }
 }
 
-/// A keeper of an index that has no rows yet.
+/// A keeper of an index that has no rows yet, for a request over failing files.
 fn new_keeper(alloc: Global) -> Result<Keeper<IndexStore>, FilesFault>
     ensures kept { IfOk result (λ keeper. (world : worlds.World) → IsKept stored_by world keeper) }
     ensures begun { IfOk result (λ keeper. begun_in keeper.progress ≡ no_spending) }

@@ -1,4 +1,5 @@
-//! Inputs and outputs that fail, and steps that no run can be made to take.
+//! Worked cases of failing streams: inputs and outputs of the program that fail, and printed steps that no
+//! run can be made to take.
 use crate::interrupted::Interrupted;
 use crate::program_runs::status_answer;
 use crate::quiet_ports::QuietPorts;
@@ -12,8 +13,9 @@ use refusals::OutOfMemory;
 use std::alloc::Global;
 use stored_tenants::StoredTenants;
 
-/// `input SCRIPT failing after N`: the fault of a script whose input gives five bytes at a read and fails
-/// after so many reads, or how many events were read. Each read is interrupted once before it is answered.
+/// The call `input SCRIPT failing after N` of a worked case of failing streams: the fault of a script whose
+/// input gives five bytes at a read and fails after so many reads, or how many events were read. Each read is
+/// interrupted once before it is answered.
 pub fn failing_input(alloc: Global, given: &[Vec<u8>]) -> Result<Answer, Trouble> {
     let [script, reads] = given else {
         return Err(Trouble::NoCase);
@@ -34,11 +36,13 @@ pub fn failing_input(alloc: Global, given: &[Vec<u8>]) -> Result<Answer, Trouble
     Ok(answer)
 }
 
-/// `narrow output SCRIPT PRINTED`: how many bytes a run writes whose output takes one byte at a write and
-/// all that is to be printed. Before that there are runs in which each write fails in turn. If one of them
-/// ends with another status than 1, writes other bytes than those before that write, or says anything but
-/// that it can't write, it gives `wrong` and the number of that write. Each write is interrupted once before it is
-/// answered.
+/// The call `narrow output SCRIPT PRINTED` of a worked case of failing streams: how many bytes a run writes,
+/// if its output takes one byte at a write and all that is to be printed. Before that there are runs in which
+/// each write fails in turn.
+///
+/// If one of these runs ends with another status than 1, writes other bytes than those before its failing
+/// write, or says anything but that it can't write, it gives `wrong` and that write's number. Each write is
+/// interrupted once before it is answered.
 pub fn narrow_output(alloc: Global, given: &[Vec<u8>]) -> Result<Answer, Trouble> {
     let [script, printed] = given else {
         return Err(Trouble::NoCase);
@@ -59,9 +63,9 @@ pub fn narrow_output(alloc: Global, given: &[Vec<u8>]) -> Result<Answer, Trouble
     Ok(answer)
 }
 
-/// `serve on PORT within N`: how a service for clients ends on that port: its status, what was
-/// written, and what was said. It serves one tenant for three rounds, no client comes, and the output
-/// takes N bytes, one at a write.
+/// The call `serve on PORT within N` of a worked case of failing streams: how a service for clients ends on
+/// that port: its status, what was written, and what was said. It serves one tenant for three rounds, no
+/// client comes, and the output takes N bytes, one at a write.
 pub fn narrow_serving(alloc: Global, given: &[Vec<u8>]) -> Result<Answer, Trouble> {
     let [port, writes] = given else {
         return Err(Trouble::NoCase);
@@ -90,7 +94,7 @@ pub fn narrow_serving(alloc: Global, given: &[Vec<u8>]) -> Result<Answer, Troubl
     Ok(answer)
 }
 
-/// A run for one tenant whose output takes so many bytes.
+/// A run of a script for one tenant whose output takes so many bytes, and fails then.
 fn run_narrow(alloc: Global, script: &[u8], writes: usize) -> Result<Ran, Trouble> {
     let config = config_of_one(alloc)?;
     let mut out = Interrupted::new(FailingWriter {
@@ -110,9 +114,9 @@ fn run_narrow(alloc: Global, script: &[u8], writes: usize) -> Result<Ran, Troubl
     })
 }
 
-/// `print SENT`: what is printed of two events. The first is refused for memory and closes
-/// connection 7. The second, a Wrote, is refused for memory and sends these bytes. Each gives a
-/// reply of 403 to no tenant.
+/// The call `print SENT` of a worked case of failing streams: what is printed of two steps that no run can be
+/// made to take. The first is refused for memory and closes connection 7. The second, a Wrote, is refused for
+/// memory and sends these bytes. Each gives a reply of 403 to no tenant.
 pub fn printed_steps(alloc: Global, given: &[Vec<u8>]) -> Result<Answer, Trouble> {
     let [sent] = given else {
         return Err(Trouble::NoCase);
@@ -127,6 +131,8 @@ pub fn printed_steps(alloc: Global, given: &[Vec<u8>]) -> Result<Answer, Trouble
     Ok(Answer::of_text(alloc, text.as_str()))
 }
 
+/// A step that no run can be made to take: it is refused for memory, sends these bytes, and may close a
+/// connection.
 fn step(refused: OutOfMemory, sent: Vec<u8>, closed: Option<u64>) -> Step {
     let reply = Tell {
         tenant: None,

@@ -1,4 +1,4 @@
-//! Calls of the layer of HTTP: streams and replies.
+//! Worked cases of calls of HTTP: the requests of a stream, and the bytes of replies.
 use case_lines::{Answer, Trouble};
 use http::StatusCode;
 use ports_http::{
@@ -6,8 +6,9 @@ use ports_http::{
 };
 use std::alloc::Global;
 
-/// `stream PIECE..`: the requests of a stream that comes in these pieces, each as its method, target and
-/// body, with `key` and its key, and `closes` if it does; then how the stream ends.
+/// The call `stream PIECE..` of a worked case of HTTP: the requests of a stream that comes in these pieces,
+/// and then how the stream ends. Each request is its method, target and body, with `key` and its key, and
+/// `closes` if it does.
 pub fn stream(alloc: Global, given: &[Vec<u8>]) -> Result<Answer, Trouble> {
     let decoded = decode(alloc, given)?;
     let mut answer = Answer::new(alloc);
@@ -22,6 +23,8 @@ pub fn stream(alloc: Global, given: &[Vec<u8>]) -> Result<Answer, Trouble> {
     Ok(answer)
 }
 
+/// Adds a request of a stream to the answer of a worked case of HTTP: its method, target and body, its key,
+/// and whether it closes.
 fn add_request(answer: &mut Answer, request: &Request) {
     answer.word(request.method.as_str());
     answer.text(request.target.as_bytes());
@@ -35,7 +38,8 @@ fn add_request(answer: &mut Answer, request: &Request) {
     }
 }
 
-/// `stream by bytes TEXT`: the same; each byte is a piece.
+/// The call `stream by bytes TEXT` of a worked case of HTTP: the requests of a stream of which each byte is a
+/// piece, and how the stream ends.
 pub fn stream_by_bytes(alloc: Global, given: &[Vec<u8>]) -> Result<Answer, Trouble> {
     let [text] = given else {
         return Err(Trouble::NoCase);
@@ -47,7 +51,7 @@ pub fn stream_by_bytes(alloc: Global, given: &[Vec<u8>]) -> Result<Answer, Troub
     stream(alloc, pieces.as_slice())
 }
 
-/// `reply file BYTES`: the reply that gives a file.
+/// The call `reply file BYTES` of a worked case of HTTP: the bytes of the reply that gives a file.
 pub fn file_reply(alloc: Global, given: &[Vec<u8>]) -> Result<Answer, Trouble> {
     let [bytes] = given else {
         return Err(Trouble::NoCase);
@@ -56,7 +60,8 @@ pub fn file_reply(alloc: Global, given: &[Vec<u8>]) -> Result<Answer, Trouble> {
     Ok(bytes_answer(alloc, write_reply(alloc, &reply, false)?.as_slice()))
 }
 
-/// `reply method`: a 405 of a route that has every method, after which the connection closes.
+/// The call `reply method` of a worked case of HTTP: the bytes of the reply 405 of a route that has every
+/// method, after which the connection closes.
 pub fn method_reply(alloc: Global) -> Result<Answer, Trouble> {
     let text = "{\"error\":\"Method\"}";
     let reply = Reply::of_text(
@@ -67,7 +72,7 @@ pub fn method_reply(alloc: Global) -> Result<Answer, Trouble> {
     Ok(bytes_answer(alloc, write_reply(alloc, &reply, true)?.as_slice()))
 }
 
-/// `reply head`: a head that is too large.
+/// The call `reply head` of a worked case of HTTP: the bytes of the reply to a head that is too large.
 #[tactic(auto, unfolding(ports_http::specs::Limits::fixed_limit))]
 pub fn head_reply(alloc: Global) -> Result<Answer, Trouble> {
     let mut out = Vec::with_capacity(alloc, 256)?;
@@ -75,7 +80,7 @@ pub fn head_reply(alloc: Global) -> Result<Answer, Trouble> {
     Ok(bytes_answer(alloc, out.as_slice()))
 }
 
-/// `reply key`: a request without a known key.
+/// The call `reply key` of a worked case of HTTP: the bytes of the reply to a request without a known key.
 #[tactic(auto, unfolding(ports_http::specs::Limits::fixed_limit))]
 pub fn key_reply(alloc: Global) -> Result<Answer, Trouble> {
     let mut out = Vec::with_capacity(alloc, 256)?;
@@ -83,7 +88,8 @@ pub fn key_reply(alloc: Global) -> Result<Answer, Trouble> {
     Ok(bytes_answer(alloc, out.as_slice()))
 }
 
-/// `reply store`: a request for which there was no memory.
+/// The call `reply store` of a worked case of HTTP: the bytes of the reply to a request for which there was
+/// no memory.
 #[tactic(auto, unfolding(ports_http::specs::Limits::fixed_limit))]
 pub fn store_reply(alloc: Global) -> Result<Answer, Trouble> {
     let mut out = Vec::with_capacity(alloc, 256)?;
@@ -91,7 +97,7 @@ pub fn store_reply(alloc: Global) -> Result<Answer, Trouble> {
     Ok(bytes_answer(alloc, out.as_slice()))
 }
 
-/// An answer of one text that may be no UTF-8.
+/// The answer of a worked case of HTTP: the bytes of a reply as one text, which may be no UTF-8.
 pub fn bytes_answer(alloc: Global, bytes: &[u8]) -> Answer {
     let mut answer = Answer::new(alloc);
     answer.text(bytes);

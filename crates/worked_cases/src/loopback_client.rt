@@ -1,4 +1,4 @@
-//! The service on a socket, with one client in the same process.
+//! Worked cases of a loopback client: the service on a socket, with one client in the same process.
 use crate::http_calls::bytes_answer;
 use crate::service::service_of_one;
 use crate::socket_clients::{Clients, WithClients, listening};
@@ -9,10 +9,10 @@ use std::alloc::Global;
 use std::io::{Read, Write};
 use std::net::{Net, SocketAddr};
 
-/// How many rounds a client is served.
+/// How many rounds a loopback client is served.
 const ROUNDS: u32 = 200;
 
-/// One client.
+/// The loopback client of a worked case.
 #[derive(Drop)]
 struct Client {
     stream: TcpStream,
@@ -22,7 +22,7 @@ struct Client {
 }
 
 impl Client {
-    /// A client of what listens on the address, which is to send these bytes.
+    /// A loopback client of what listens on the address, which is to send these bytes.
     fn connect(
         alloc: Global,
         net: &impl Net,
@@ -39,7 +39,8 @@ impl Client {
 }
 
 impl Clients for Client {
-    /// Sends what the socket takes, and takes what has come, or learns that nothing more will.
+    /// The loopback client sends what its socket takes, and takes what has come, or learns that nothing more
+    /// will.
     fn step(&mut self) {
         if let Ok(count) = self.stream.write(self.unsent.as_slice()) {
             self.unsent.drain(..count);
@@ -52,8 +53,9 @@ impl Clients for Client {
     }
 }
 
-/// `loopback BYTES`: what a client that sends these bytes over a socket is sent, within 200 rounds of a
-/// service with the key `alpha`, and whether its connection is then `open` or `closed`.
+/// The call `loopback BYTES` of a worked case of a loopback client: what a client is sent over a socket if it
+/// sends these bytes, and whether its connection is then `open` or `closed`. It is served for 200 rounds by a
+/// service with the key `alpha`.
 pub fn answered(alloc: Global, net: &impl Net, given: &[Vec<u8>]) -> Result<Answer, Trouble> {
     let [sent] = given else {
         return Err(Trouble::NoCase);

@@ -28,14 +28,15 @@ use portsd_host::words_given;
 use std::{fs, io};
 use subjects::Subjects;
 
+/// Runs the program of worked cases: takes the files of cases that its words name, or standard input.
 fn main(rt: HostRuntime) -> io::Result<()> {
     let words = words_given(&rt)?;
     let subjects = Subjects::new(rt.alloc(), &rt)?;
     take_files(&rt, &words, Cases::new(rt.alloc(), subjects))
 }
 
-/// Takes the files that the words name after the first, or standard input if they name none. It prints what
-/// is wrong, and how many cases there are.
+/// Takes the files of worked cases that the words name after the first, or standard input if they name none.
+/// It prints what is wrong, and how many cases there are.
 fn take_files<B: Bench>(rt: &HostRuntime, words: &[String], cases: Cases<B>) -> io::Result<()> {
     let mut cases = cases;
     if words.len() < 2 {
@@ -51,7 +52,7 @@ fn take_files<B: Bench>(rt: &HostRuntime, words: &[String], cases: Cases<B>) -> 
     println!(rt; "{count} cases, {wrong} differ")
 }
 
-/// Takes each line of a file, and prints what is wrong.
+/// Takes each line of a file of worked cases, and prints what is wrong.
 fn take_file<B: Bench>(
     rt: &HostRuntime,
     cases: &mut Cases<B>,
@@ -65,6 +66,7 @@ fn take_file<B: Bench>(
     tell(rt, cases.end_file()?)
 }
 
+/// Prints what is wrong with a worked case, if something is.
 fn tell(rt: &HostRuntime, wrong: Option<String>) -> io::Result<()> {
     match wrong {
         Some(wrong) => println!(rt; "{wrong}"),

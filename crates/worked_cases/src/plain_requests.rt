@@ -1,4 +1,5 @@
-//! Requests over a tenant's files, answered by the plain service, and what they cost.
+//! Worked cases of plain requests: requests over a tenant's files, answered by the plain service, and what
+//! they cost.
 use case_lines::{Answer, Trouble, as_text, one_text};
 use make_cases::World;
 use mk_files::MemoryFiles;
@@ -9,8 +10,8 @@ use ports_http::{Method, Reply};
 use std::alloc::{AllocError, Global};
 use turn_amounts::{MOST_CHECKS, TURN_UNITS};
 
-/// `GET TARGET`, `PUT TARGET BODY`, `DELETE TARGET`: the status and the body of the plain reply over
-/// the world, which the request may change.
+/// The calls `GET TARGET`, `PUT TARGET BODY`, `DELETE TARGET` of a worked case of plain requests: the status
+/// and the body of the plain reply over the world, which the request may change.
 pub fn request(
     alloc: Global,
     world: &mut World,
@@ -38,7 +39,7 @@ pub fn request(
     Ok(answer)
 }
 
-/// What the plain service prepares for a request over these files and settings.
+/// What the plain service prepares for a plain request over these files and settings.
 fn prepare(
     alloc: Global,
     files: &mut MemoryFiles,
@@ -51,8 +52,9 @@ fn prepare(
     Ok(plain_answer(alloc, files, settings, question)?)
 }
 
-/// `rests TARGET`: how many makefiles a GET rests on over the world, each once for each choice of flavors,
-/// and what they cost, with the records, the SUBDIRs and the value.
+/// The call `rests TARGET` of a worked case of plain requests: how many makefiles a GET rests on over the
+/// world, each once for each choice of flavors. Then it gives what they cost, with the records, the SUBDIRs
+/// and the value.
 pub fn rests(alloc: Global, world: &mut World, given: &[Vec<u8>]) -> Result<Answer, Trouble> {
     let plain = Plain::new(alloc)?;
     let question = plain.question(alloc, Method::Get, one_text(given)?, &[])?;
@@ -63,8 +65,9 @@ pub fn rests(alloc: Global, world: &mut World, given: &[Vec<u8>]) -> Result<Answ
     Ok(answer)
 }
 
-/// `bound TARGET`: within how many of its tenant's own turns a GET over the world is told its reply. That is one turn, one
-/// for each makefile on which it rests, and one for each 1,000 of its units and of the checks that may come.
+/// The call `bound TARGET` of a worked case of plain requests: within how many of its tenant's own turns a
+/// GET over the world is told its reply. That is one turn, one for each makefile on which it rests, and one
+/// for each 1,000 of its units and of the checks that may come.
 pub fn bound(alloc: Global, world: &mut World, given: &[Vec<u8>]) -> Result<Answer, Trouble> {
     let plain = Plain::new(alloc)?;
     let question = plain.question(alloc, Method::Get, one_text(given)?, &[])?;
@@ -76,7 +79,7 @@ pub fn bound(alloc: Global, world: &mut World, given: &[Vec<u8>]) -> Result<Answ
     Ok(answer)
 }
 
-/// Carries out what a request changes.
+/// Carries out in the world of a worked case what a plain request changes.
 fn carry_out(world: &mut World, change: Change) -> Result<(), AllocError> {
     match change {
         Change::PutFile(name, content) => world.files.put(name, content)?,
@@ -89,7 +92,7 @@ fn carry_out(world: &mut World, change: Change) -> Result<(), AllocError> {
     Ok(())
 }
 
-/// The status of a reply, with its phrase, and its body.
+/// The reply to a request as the answer of a worked case: its status, with its phrase, and its body.
 pub fn reply_answer(alloc: Global, reply: &Reply) -> Answer {
     let mut answer = Answer::of_word(alloc, reply.status.as_str());
     answer.word(reply.status.canonical_reason().unwrap_or(""));

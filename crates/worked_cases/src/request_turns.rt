@@ -1,4 +1,5 @@
-//! The turns that a request takes: what each tells, with the store's steps limited in some of them.
+//! Worked cases of the turns that a request takes: what each turn tells, with the store's steps limited in
+//! some of them.
 use crate::case_requests::{CaseRequest, ask, ask_within, happen, send};
 use crate::service::StoredService;
 use case_lines::{Answer, Trouble, as_number};
@@ -11,7 +12,7 @@ use store_cases::MOST_LIMITS;
 /// More turns than a request of a case takes.
 const MOST_TURNS: usize = 100;
 
-/// In which turns of a request each statement of the store may take so many steps at most.
+/// In which turns of a case's request each statement of the store may take so many steps at most.
 #[derive(Clone, Copy)]
 pub enum Limit {
     Never,
@@ -21,7 +22,7 @@ pub enum Limit {
 }
 
 impl Limit {
-    /// The limit in the turn with this number.
+    /// The limit of the store's steps in the turn of a request with this number.
     fn in_turn(self, number: usize) -> Option<u64> {
         match self {
             Limit::InAll(steps) => Some(steps),
@@ -31,7 +32,7 @@ impl Limit {
     }
 }
 
-/// What a turn tells as spent, and what the tenant's first request has had after it.
+/// What a turn of a case's request tells as spent, and what the tenant's first request has had after it.
 #[derive(Clone, Copy)]
 pub struct TurnCost {
     units: u64,
@@ -39,7 +40,7 @@ pub struct TurnCost {
     had: Job,
 }
 
-/// A reply, and what each turn of its request tells as spent.
+/// The reply to a case's request, and what each turn of the request tells as spent.
 #[derive(Drop)]
 pub struct Counted {
     pub reply: Reply,
@@ -47,7 +48,7 @@ pub struct Counted {
 }
 
 impl Counted {
-    /// The units of all turns.
+    /// The units of all turns of a case's request.
     pub fn units(&self) -> u64 {
         let mut units: u64 = 0;
         for turn in self.turns.iter() {
@@ -56,7 +57,7 @@ impl Counted {
         units
     }
 
-    /// The checked answers of all turns.
+    /// The checked answers of all turns of a case's request.
     pub fn checks(&self) -> u64 {
         let mut checks: u64 = 0;
         for turn in self.turns.iter() {
@@ -65,7 +66,7 @@ impl Counted {
         checks
     }
 
-    /// Whether the turn that told the reply spent nothing.
+    /// Whether the turn of a case's request that told the reply spent nothing.
     pub fn is_free_at_last(&self) -> bool {
         match self.turns.last() {
             Some(turn) => turn.units == 0 && turn.checks == 0,
@@ -74,7 +75,8 @@ impl Counted {
     }
 }
 
-/// The turns of a tenant until a reply is told.
+/// Takes the turns of a tenant until a reply to its request is told, with the store's steps limited in some
+/// of them.
 pub fn take_turns(
     alloc: Global,
     service: &mut StoredService,
@@ -98,9 +100,9 @@ pub fn take_turns(
     Err(Trouble::NoCase)
 }
 
-/// `service turns TENANT TARGET`, `service turns TENANT TARGET stopped in TURN`: the status of a GET, and of each of
-/// its turns the units and the checked answers that it tells. In the turn with this number, counted from 1, the
-/// store's statements may take one step.
+/// The calls `service turns TENANT TARGET`, `service turns TENANT TARGET stopped in TURN` of a worked case:
+/// the status of a GET, and of each of its turns the units and the checked answers that it tells. In the turn
+/// with this number, counted from 1, the store's statements may take one step.
 pub fn turns_answer(
     alloc: Global,
     service: &mut StoredService,
@@ -121,8 +123,8 @@ pub fn turns_answer(
     Ok(answer)
 }
 
-/// `service jobs TENANT TARGET`: the status of a GET, and after each of its turns what the tenant's first request has
-/// had: turns, units and checked answers.
+/// The call `service jobs TENANT TARGET` of a worked case: the status of a GET, and after each of its turns
+/// what the tenant's first request has had: turns, units and checked answers.
 pub fn jobs_answer(
     alloc: Global,
     service: &mut StoredService,
@@ -140,9 +142,12 @@ pub fn jobs_answer(
     Ok(answer)
 }
 
-/// `service job TENANT TARGET while TENANT TARGET`: a GET that has had one turn, while another one is asked and told.
-/// It gives `kept` if the second GET changed nothing of what the first has had, and else `changed`. Then it gives what
-/// the first has had after its first turn, how many turns the second took, and how many more the first.
+/// The call `service job TENANT TARGET while TENANT TARGET` of a worked case: a GET that has had one turn,
+/// while another one is asked and told.
+///
+/// It gives `kept` if the second GET changed nothing of what the first has had, and else `changed`. Then it
+/// gives what the first has had after its first turn, how many turns the second took, and how many more the
+/// first.
 pub fn job_while_answer(
     alloc: Global,
     service: &mut StoredService,
@@ -166,14 +171,14 @@ pub fn job_while_answer(
     Ok(answer)
 }
 
-/// Adds the three counts of a job to an answer.
+/// Adds to the answer of a worked case what a request has had: turns, units and checked answers.
 fn add_job(answer: &mut Answer, had: Job) {
     answer.number(had.turns);
     answer.number(had.units);
     answer.number(had.checks);
 }
 
-/// The place of a turn whose number counts from 1.
+/// The place of a request's turn, counted from 0, whose number a case counts from 1.
 fn place_of(turn: &[u8]) -> Result<usize, Trouble> {
     match as_number(turn)?.checked_sub(1) {
         Some(place) => Ok(place as usize),
@@ -181,14 +186,14 @@ fn place_of(turn: &[u8]) -> Result<usize, Trouble> {
     }
 }
 
-/// A GET, and a request before it, after which it takes all its turns again.
+/// A GET of a worked case, and a request before it, after which it takes all its turns again.
 #[derive(Clone, Copy)]
 struct GetAfter<'a> {
     get: CaseRequest<'a>,
     before: CaseRequest<'a>,
 }
 
-/// What GETs told that were asked again after one that was answered 503.
+/// What GETs of a worked case told in all their turns, asked again after one GET was answered 503.
 #[derive(Clone, Copy, PartialEq, Eq)]
 enum Again {
     /// None was answered 503.
@@ -199,11 +204,14 @@ enum Again {
     Wrong,
 }
 
-/// `service GET stopped at each turn TENANT TARGET after PUT TARGET BODY`, and after GET TARGET: the first GET after
-/// the other request. It is asked under a limit of 1, 2, 3 .. steps in its first turn alone, until that turn isn't
-/// answered 503; then so in its second turn, and so on up to the last. After each 503 the GET is asked again, without
-/// a limit. For each turn it gives the units of the GETs that were asked again, or `never` if the turn wasn't answered
-/// 503. It gives `wrong` if one gave another reply than a GET without a limit, or other units than the others.
+/// The call `service GET stopped at each turn TENANT TARGET after PUT TARGET BODY` of a worked case, and
+/// after GET TARGET: the first GET after the other request. It is asked under a limit of 1, 2, 3 .. steps in
+/// its first turn alone, until that turn isn't answered 503; then so in its second turn, and so on up to the
+/// last. After each 503 the GET is asked again, without a limit.
+///
+/// For each turn it gives the units of the GETs that were asked again, or `never` if the turn wasn't answered
+/// 503. It gives `wrong` if one gave another reply than a GET without a limit, or other units than the
+/// others.
 pub fn stopped_at_each(
     alloc: Global,
     service: &mut StoredService,
@@ -231,7 +239,8 @@ pub fn stopped_at_each(
     Ok(answer)
 }
 
-/// The same for the turn with this number.
+/// What GETs of a worked case told, asked again after each 503 in the turn with this number, under a limit of
+/// 1, 2, 3 .. steps.
 fn stopped_in(
     alloc: Global,
     service: &mut StoredService,

@@ -1,16 +1,16 @@
-//! The service of cases, and what it is after a script.
+//! The service of worked cases, and what it is after a script.
 use case_lines::{Answer, Trouble, as_number};
 use ports_core::{Config, Service, Transcript, replay};
 use portsd_text::read_script;
 use std::alloc::Global;
 use stored_tenants::StoredTenants;
 
-/// The service over worlds in one store.
+/// The service of worked cases, over worlds in one store.
 pub type StoredService = Service<StoredTenants>;
 
-/// `after SCRIPT at CONN TENANT`: the service of one tenant with the key `alpha` after a script. It gives
-/// the number of the next connection, the room and the pending bytes of the connection CONN, and how many
-/// requests of the tenant wait.
+/// The call `after SCRIPT at CONN TENANT` of a worked case: the service of one tenant with the key `alpha`
+/// after a script. It gives the number of the next connection, the room and the pending bytes of the
+/// connection CONN, and how many requests of the tenant wait.
 pub fn after(alloc: Global, given: &[Vec<u8>]) -> Result<Answer, Trouble> {
     let [script, conn, tenant] = given else {
         return Err(Trouble::NoCase);
@@ -25,7 +25,7 @@ pub fn after(alloc: Global, given: &[Vec<u8>]) -> Result<Answer, Trouble> {
     Ok(answer)
 }
 
-/// The service of one tenant after a script.
+/// The service of a worked case with one tenant after a script.
 fn replayed(alloc: Global, script: &[u8]) -> Result<StoredService, Trouble> {
     let mut input = script;
     let script = read_script(alloc, &mut input).map_err(|_| Trouble::NoCase)?;
@@ -35,7 +35,7 @@ fn replayed(alloc: Global, script: &[u8]) -> Result<StoredService, Trouble> {
     }
 }
 
-/// The config of one tenant with the key `alpha`.
+/// The config of the service of a worked case with one tenant, whose key is `alpha`.
 pub fn config_of_one(alloc: Global) -> Result<Config, Trouble> {
     let key = String::from_str(alloc, "alpha")?;
     Ok(Config {
@@ -45,7 +45,7 @@ pub fn config_of_one(alloc: Global) -> Result<Config, Trouble> {
     })
 }
 
-/// The service of one tenant with the key `alpha`.
+/// The service of a worked case with one tenant, whose key is `alpha`.
 pub fn service_of_one(alloc: Global) -> Result<StoredService, Trouble> {
     Service::new(alloc, config_of_one(alloc)?).map_err(|_| Trouble::NoCase)
 }

@@ -1,4 +1,5 @@
-//! The things that lines of a case set up and ask, and which call each line means.
+//! The subjects of worked cases: the things that lines of a case set up and ask, and which call each line
+//! means.
 use crate::service::StoredService;
 use crate::{
     case_requests, cut_streams, failing_files, failing_streams, http_calls, loopback_client,
@@ -12,7 +13,8 @@ use std::alloc::{AllocError, Global};
 use std::net::Net;
 use tenant_store::TenantStore;
 
-/// What lines without `=>` set up for the lines after them, and a network for clients.
+/// The subjects of worked cases: what lines without `=>` set up for the lines after them, and a network for
+/// clients.
 #[derive(Drop)]
 pub struct Subjects<'a, N: Net> {
     alloc: Global,
@@ -24,7 +26,7 @@ pub struct Subjects<'a, N: Net> {
 }
 
 impl<'a, N: Net> Subjects<'a, N> {
-    /// Subjects of which nothing is set up yet. It fails only if there is no memory for them.
+    /// Subjects of worked cases of which nothing is set up yet. It fails only if there is no memory for them.
     pub fn new(alloc: Global, net: &'a N) -> Result<Subjects<'a, N>, AllocError> {
         Ok(Subjects {
             alloc,
@@ -36,7 +38,7 @@ impl<'a, N: Net> Subjects<'a, N> {
         })
     }
 
-    /// What the call of a store, of rows, of a service or of ports gives.
+    /// What the call of a worked case gives if its subject is a store, rows, a service or ports.
     fn answer_of_other(&mut self, call: &str, given: &[Vec<u8>]) -> Result<Answer, Trouble> {
         if let Some(call) = call.strip_prefix("store ") {
             return self.answer_of_store(call, given);
@@ -50,6 +52,7 @@ impl<'a, N: Net> Subjects<'a, N> {
         }
     }
 
+    /// What a call `rows ..` of a worked case gives, if rows are set up as a subject.
     fn answer_of_rows(&mut self, call: &str, given: &[Vec<u8>]) -> Result<Answer, Trouble> {
         match &mut self.rows {
             Some(rows) => store_cases::rows::answer(self.alloc, rows, call, given),
@@ -57,6 +60,7 @@ impl<'a, N: Net> Subjects<'a, N> {
         }
     }
 
+    /// What a call `store ..` of a worked case gives, if stores are set up as a subject.
     fn answer_of_store(&mut self, call: &str, given: &[Vec<u8>]) -> Result<Answer, Trouble> {
         match &mut self.stores {
             Some(stores) => store_cases::answer(self.alloc, stores, call, given),
@@ -64,6 +68,7 @@ impl<'a, N: Net> Subjects<'a, N> {
         }
     }
 
+    /// What a call `service ..` of a worked case gives, if a service is set up as a subject.
     fn answer_of_service(&mut self, call: &str, given: &[Vec<u8>]) -> Result<Answer, Trouble> {
         match &mut self.service {
             Some(service) => case_requests::answer(self.alloc, service, call, given),
@@ -73,6 +78,7 @@ impl<'a, N: Net> Subjects<'a, N> {
 }
 
 impl<N: Net> Bench for Subjects<'_, N> {
+    /// Drops all subjects that lines of a worked case set up.
     fn clear(&mut self) -> Result<(), AllocError> {
         self.setup = Setup::new(self.alloc)?;
         self.stores = None;
@@ -81,6 +87,8 @@ impl<N: Net> Bench for Subjects<'_, N> {
         Ok(())
     }
 
+    /// Sets up the subject that a line of a worked case without `=>` says: stores, rows, a service, or what
+    /// cases of makefiles set up.
     fn set_up(&mut self, call: &str, given: &[Vec<u8>]) -> Result<(), Trouble> {
         match call {
             "empty stores" => self.stores = Some(store_cases::empty(self.alloc)?),
@@ -91,6 +99,7 @@ impl<N: Net> Bench for Subjects<'_, N> {
         Ok(())
     }
 
+    /// What the call of a worked case's line gives, by the subject that the call names.
     fn answer(&mut self, call: &str, given: &[Vec<u8>]) -> Result<Answer, Trouble> {
         let alloc = self.alloc;
         match call {
@@ -132,6 +141,7 @@ impl<N: Net> Bench for Subjects<'_, N> {
         }
     }
 
+    /// Runs the program for a worked case that is a script.
     fn run(&mut self, words: &str, input: &[u8]) -> Result<Ran, Trouble> {
         program_runs::run_program(self.alloc, words, input)
     }

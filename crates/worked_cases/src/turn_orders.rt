@@ -1,23 +1,26 @@
-//! Turns of two tenants, in every order.
+//! Worked cases of turn orders: the turns of two tenants, in every order.
 use crate::case_requests::{config, happen};
 use case_lines::{Answer, Trouble, as_number};
 use ports_core::{Event, Transcript, replay};
 use portsd_text::{Script, read_script};
 use std::alloc::Global;
 
-/// The most turns of both tenants together.
+/// The most turns of both tenants in a turn order.
 const MOST_TURNS: u64 = 8;
 
-/// More orders than there are of so many turns.
+/// More turn orders than there are of so many turns.
 const MOST_ORDERS: Order = 256;
 
-/// An order of turns of two tenants: as many bits as there are turns, the lowest first. A bit says whose turn it is.
+/// A turn order of two tenants: as many bits as there are turns, the lowest first. A bit says whose turn it
+/// is.
 type Order = u64;
 
-/// `any order SCRIPT of TURNS with PARSES EVALS`: what the connections 0 and 1 have to write after a script and as many
-/// turns of each of two tenants, with a cache of these sizes. All orders of the turns are tried, each with a new
-/// service. It gives how many orders there are, and the bytes of both connections; after them `but` and
-/// an order, for each order that leaves other bytes.
+/// The call `any order SCRIPT of TURNS with PARSES EVALS` of a worked case of turn orders: what the
+/// connections 0 and 1 have to write after a script and so many turns of each of two tenants. The service has
+/// a cache of these sizes. All orders of the turns are tried, each with a new service.
+///
+/// It gives how many orders there are, and the bytes of both connections; after them `but` and an order, for
+/// each order that leaves other bytes.
 pub fn any_order(alloc: Global, given: &[Vec<u8>]) -> Result<Answer, Trouble> {
     let [script, turns, sizes @ ..] = given else {
         return Err(Trouble::NoCase);
@@ -46,7 +49,8 @@ pub fn any_order(alloc: Global, given: &[Vec<u8>]) -> Result<Answer, Trouble> {
     Ok(answer)
 }
 
-/// The turns of both tenants together, if each has so many.
+/// The number of turns in a turn order of two tenants, if each tenant has so many. It is `NoCase` if there
+/// are too many.
 fn both_turns(turns: u64) -> Result<u64, Trouble> {
     if turns > MOST_TURNS / 2 {
         return Err(Trouble::NoCase);
@@ -54,7 +58,7 @@ fn both_turns(turns: u64) -> Result<u64, Trouble> {
     Ok(2 * turns)
 }
 
-/// The orders of so many turns of which one half is of each tenant.
+/// The orders of so many turns of two tenants in which each tenant has one half of the turns.
 fn orders(alloc: Global, turns: u64) -> Result<Vec<Order>, Trouble> {
     let mut found = Vec::new(alloc);
     for order in 0..MOST_ORDERS {
@@ -66,7 +70,7 @@ fn orders(alloc: Global, turns: u64) -> Result<Vec<Order>, Trouble> {
     Ok(found)
 }
 
-/// What is left of an order after so many turns, and how many of these are of the tenant 1.
+/// What is left of a turn order after so many turns, and how many of these are of the tenant 1.
 fn counted(order: Order, turns: u64) -> (Order, u64) {
     let mut rest = order;
     let mut of_tenant_1: u64 = 0;
@@ -77,7 +81,7 @@ fn counted(order: Order, turns: u64) -> (Order, u64) {
     (rest, of_tenant_1)
 }
 
-/// What the connections 0 and 1 have to write after a script and turns in an order.
+/// What the connections 0 and 1 have to write after a script and the turns of two tenants in this order.
 fn pending_after(
     alloc: Global,
     script: &Script,

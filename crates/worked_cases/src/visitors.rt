@@ -1,4 +1,5 @@
-//! Clients over TCP that come one after another, and where the service listens for them.
+//! Worked cases of visitors: clients over TCP that come one after another, and where the service listens for
+//! them.
 use crate::service::service_of_one;
 use crate::socket_clients::{Clients, WithClients, listening};
 use case_lines::{Answer, Trouble, as_number};
@@ -9,11 +10,11 @@ use std::alloc::Global;
 use std::io::{Read, Write};
 use std::net::{IpAddr, Ipv4Addr, Net, SocketAddr};
 
-/// More rounds than the clients of a case take, each of which takes a few.
+/// More rounds than the visitors of a case take, each of which takes a few.
 const ROUNDS: u32 = 2_000;
 
-/// Clients of what listens on the address. The one that is there sends what it has, and leaves once it was sent
-/// something. Then the next one comes.
+/// The visitors of a worked case: clients of what listens on the address. The one that is there sends what it
+/// has, and leaves once it was sent something. Then the next one comes.
 #[derive(Drop)]
 struct Visitors<'a, N: Net> {
     net: &'a N,
@@ -27,7 +28,7 @@ struct Visitors<'a, N: Net> {
 }
 
 impl<N: Net> Clients for Visitors<'_, N> {
-    /// The client that is there, or the next one, as long as one is left.
+    /// A step of the visitor that is there, or of the next one, as long as one is left.
     fn step(&mut self) {
         match &mut self.client {
             None if self.served < self.most => {
@@ -50,7 +51,7 @@ impl<N: Net> Clients for Visitors<'_, N> {
 }
 
 impl<N: Net> Visitors<'_, N> {
-    /// The client was sent these bytes, and leaves.
+    /// The visitor that is there was sent these bytes, and leaves.
     fn leave(&mut self, bytes: &[u8]) {
         self.client = None;
         self.last.clear();
@@ -59,9 +60,9 @@ impl<N: Net> Visitors<'_, N> {
     }
 }
 
-/// `visits STREAM by N`: how many of N clients that come one after another over sockets are sent something by a
-/// service with the key `alpha`, and what the last of them was sent. Each sends this stream, and leaves once it
-/// was sent something.
+/// The call `visits STREAM by N` of a worked case of visitors: how many of N clients that come one after
+/// another over sockets are sent something, and what the last of them was sent. The service has the key
+/// `alpha`. Each client sends this stream, and leaves once it was sent something.
 pub fn served(alloc: Global, net: &impl Net, given: &[Vec<u8>]) -> Result<Answer, Trouble> {
     let [sent, most] = given else {
         return Err(Trouble::NoCase);
@@ -89,8 +90,9 @@ pub fn served(alloc: Global, net: &impl Net, given: &[Vec<u8>]) -> Result<Answer
     Ok(answer)
 }
 
-/// `listen`: a port is found that is free, and listened on. It gives whether the address that is then listened on is
-/// `127.0.0.1`, and whether it has that port; and why a second one can't listen there.
+/// The call `listen` of a worked case of visitors: a port is found that is free, and listened on. It gives
+/// whether the address that is then listened on is `127.0.0.1`, and whether it has that port; and why a
+/// second one can't listen there.
 pub fn listens(alloc: Global, net: &impl Net) -> Result<Answer, Trouble> {
     let port = free_port(alloc, net)?;
     let (_sockets, address) = listening(alloc, net, port)?;
@@ -108,7 +110,7 @@ pub fn listens(alloc: Global, net: &impl Net) -> Result<Answer, Trouble> {
     Ok(answer)
 }
 
-/// A port that nothing listens on.
+/// A port that nothing listens on, where the service may listen for visitors.
 fn free_port(alloc: Global, net: &impl Net) -> Result<u16, Trouble> {
     let (_sockets, address) = listening(alloc, net, 0)?;
     Ok(address.port())
