@@ -5,7 +5,7 @@
 mod asks;
 mod dependencies;
 mod given;
-mod index_look;
+mod kept_look;
 mod paths;
 mod records;
 mod refreshes;
@@ -36,7 +36,7 @@ pub fn answer(
         "put away by" => refreshes::put_away_answer(alloc, world, given),
         "refreshed failing by" => refreshes::refreshed_failing(alloc, world, given),
         "refreshed stopped by" => refreshes::refreshed_stopped(alloc, world, given),
-        "look failing" => index_look::look_failing(alloc, world, given),
+        "look failing" => kept_look::look_failing(alloc, world, given),
         "items" => dependencies::items_answer(alloc, world),
         "statuses" => dependencies::statuses(alloc, world, given),
         "first" | "to" | "reached" | "reaching" => {

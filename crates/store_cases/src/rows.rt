@@ -1,6 +1,7 @@
 //! Cases of the rows of an index in their store, in the table of today and in that of the release before.
+use crate::MOST_LIMITS;
 use crate::changes::given_profile;
-use crate::{MOST_LIMITS, stops_answer};
+use crate::stores::stops_answer;
 use case_lines::{Answer, Trouble, as_text};
 use index_store::{IndexStore, PathRows};
 use mk_paths::FilesFault;
