@@ -59,7 +59,7 @@ impl Iteration {
 
     /// The word that an iteration gives the loop's variable of this name. If two variables have this name,
     /// the first counts.
-    fn word(&self, name: &str) -> Option<&str>
+    pub(crate) fn word(&self, name: &str) -> Option<&str>
         ensures { option_copied result ≡ word_of (iteration_words self.now) name.now }
     {
         let iterations = &*self.iterations;
