@@ -120,8 +120,8 @@ pub(crate) fn begin_walk<F: Listing + Drop, R: PathRows>(
     }
 }
 
-/// The stage of directories with which a refresh's walk begins over the index of before: over that index's
-/// directories if that serves, or else over those that are there.
+/// The first stage of a walk, over directories: those of the index of before if they serve, or else those that
+/// are there.
 fn first_stage<F: Listing + Drop>(
     alloc: Global,
     files: &mut Recorder<F>,

@@ -150,7 +150,7 @@ pub fn two_answer(alloc: Global, one: &[u8], other: &[u8]) -> Answer {
     answer
 }
 
-/// A budget that has counted so many questions, for a case that asks files for more.
+/// The budget of a case of files that asks them a question: so many questions are counted already.
 fn asked(count: &[u8]) -> Result<Budget, Trouble> {
     let mut budget = Budget::new(UNITS);
     for _ in 0..as_number(count)? {

@@ -144,7 +144,8 @@ impl OpenBlock {
     }
 }
 
-/// The node of a choice with this first line, these branches, and that of its `.else`, if it has one.
+/// The node that the reader makes of a choice once it ends: with this first line, these branches, and that of
+/// its `.else`, if it has one.
 fn choice(
     alloc: Global,
     head: Logical,

@@ -3,13 +3,13 @@
 
 mod calls;
 mod comparisons;
+mod directives;
 mod forms;
+mod lone_sides;
 mod numbers;
 mod setting;
-mod sides;
 mod trees;
-mod truth_values;
 
+pub use directives::{directive_truth, truth};
 pub use forms::Form;
 pub use setting::Setting;
-pub use truth_values::{directive_truth, truth};

@@ -7,8 +7,8 @@ ghost use Rattle.mk_cond.specs.Tasks.{TellsAny, TellsAll, DoesTerm};
 
 use crate::calls::call_truth;
 use crate::comparisons::compared;
+use crate::lone_sides::side_truth;
 use crate::setting::Setting;
-use crate::sides::side_truth;
 use mk_base::{Budget, FaultKind, Stop};
 use mk_cond_tree::{Condition, Conjunction, Term};
 use mk_paths::Names;

@@ -22,14 +22,14 @@ pub(crate) fn cut_into_elements(alloc: Global, text: &str) -> Result<(&str, Vec<
     }
 }
 
-/// Whether a choice of a package path names a subpackage.
+/// Whether an element of a path's text names a subpackage: it begins with a dash.
 fn is_subpackage(choice: &str) -> bool
     ensures { result ≡ is_subpackage choice.now }
 {
     choice.starts_with('-')
 }
 
-/// Whether a choice of a package path names a flavor.
+/// Whether an element of a path's text names a flavor.
 fn is_flavor(choice: &str) -> bool
     ensures { result ≡ is_flavor choice.now }
 {
@@ -103,7 +103,7 @@ fn has_bare_dash(choices: &[&str]) -> bool
     choices.iter().any(|choice| *choice == "-")
 }
 
-/// The flavors that the choices of a package path choose.
+/// The flavors that these elements of a path's text choose.
 pub(crate) fn flavors_of(alloc: Global, choices: &[&str]) -> Result<Flavors, AllocError>
     ensures { IfOk result (λ flavors. flavors_seen flavors ≡ flavors_of (now_all choices.now)) }
 {
@@ -115,7 +115,7 @@ pub(crate) fn flavors_of(alloc: Global, choices: &[&str]) -> Result<Flavors, All
     Ok(Flavors::Explicit(flavors))
 }
 
-/// The flavors that the choices of a package path name, as they are written.
+/// The flavors that these elements of a path's text name, as they are written.
 fn named_flavors(alloc: Global, choices: &[&str]) -> Result<Vec<String>, AllocError>
     ensures { FindsFlavors result choices.now }
 {
@@ -128,7 +128,7 @@ fn named_flavors(alloc: Global, choices: &[&str]) -> Result<Vec<String>, AllocEr
     Ok(flavors)
 }
 
-/// The first subpackage that the choices of a package path name; `None` if they name none.
+/// The first subpackage that these elements of a path's text name; `None` if they name none.
 pub(crate) fn subpackage_of(alloc: Global, choices: &[&str]) -> Result<Option<String>, AllocError>
     ensures { GivesSubpackage result choices.now }
 {

@@ -113,7 +113,8 @@ fn holds(text: &str, wanted: u8) -> bool
     text.bytes().any(|byte| byte == wanted)
 }
 
-/// What an item asks for that has this spec and this path; `None` if they can't be read.
+/// What the text of an item asks for, read from these parts of it, a spec and a path; `None` if they can't be
+/// read.
 fn wanted_in(alloc: Global, spec: Option<&str>, path: &str) -> Result<Option<Wanted>, AllocError>
     ensures { IfOk result (λ wanted. wanted
         ≡ item_text.wanted_in (record { spec = option_copied spec.entry; path = path.now })) }

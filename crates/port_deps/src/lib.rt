@@ -6,12 +6,14 @@ mod edge;
 mod item;
 mod item_text;
 mod root;
+mod root_edge;
 mod statuses;
 mod wanted;
 
 pub use edge::{Edge, resolve};
 pub use item::{Item, items};
 pub use item_text::{has_comma, read_wanted};
-pub use root::{Root, RootEdge};
+pub use root::Root;
+pub use root_edge::RootEdge;
 pub use statuses::{Found, Status};
 pub use wanted::Wanted;

@@ -1,8 +1,7 @@
-//! The roots of a ports tree, and their edges: the entries of the lists about which questions are asked.
-ghost use Rattle.std.specs.Prelude.{◌≡◌, string_bytes};
+//! The roots of a ports tree: its ports, and the directories whose makefile has a fault.
+ghost use Rattle.std.specs.Prelude.{◌≡◌};
 ghost use Rattle.port_deps.specs.Roots.{state_lent};
 
-use crate::edge::Edge;
 use mk_base::Fault;
 use port_rules::PortRecord;
 use std::marker::Model;
@@ -43,44 +42,5 @@ impl<'a> Root<'a> {
         ensures { state_lent result ≡ self.now.state }
     {
         self.state
-    }
-}
-
-/// An edge of a root: a dependency of a port of a ports tree, with the path of that port.
-#[derive(Debug, Drop)]
-pub struct RootEdge {
-    root: String,
-    edge: Edge,
-}
-
-impl Model for RootEdge {
-    ghost use Rattle.std.specs.Prelude.{string_bytes};
-    ghost use Rattle.port_deps.specs.Roots.{RootEdgeValue};
-
-    ghost Value = { RootEdgeValue };
-
-    ghost view = { λ e. record { root = string_bytes e.root; edge = e.edge } };
-}
-
-impl RootEdge {
-    /// The edge of the root at this canonical path.
-    pub fn new(root: String, edge: Edge) -> RootEdge
-        ensures { result ≡ record { root = string_bytes root; edge = edge } }
-    {
-        RootEdge { root, edge }
-    }
-
-    /// The path of the root that has the edge, in the canonical form and without a subpackage.
-    pub fn root(&self) -> &str
-        ensures { result.now ≡ self.now.root }
-    {
-        self.root.as_str()
-    }
-
-    /// The edge of the root: the dependency with its status.
-    pub fn edge(&self) -> &Edge
-        ensures { result.now ≡ self.now.edge }
-    {
-        &self.edge
     }
 }

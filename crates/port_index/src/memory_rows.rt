@@ -146,7 +146,7 @@ impl<'a> RowFinder<'a> {
     }
 }
 
-/// Whether one of the names for which a row asked is among the others.
+/// Whether a row in memory asked for one of the other names.
 pub fn is_one_among(names: &[String], others: &BTreeSet<String>) -> bool
     ensures { result ≡ list_any (λ name. contains_text others.now (string_bytes name)) names.now }
 {

@@ -70,7 +70,8 @@ fn put_items(
     Ok(())
 }
 
-/// The path that an item asks for, without a subpackage, if the item can be read.
+/// The target of a root's edge: the path that its item asks for, without a subpackage, if the item can be
+/// read.
 pub(crate) fn target_of(
     alloc: Global,
     wanted: Option<&Wanted>,

@@ -80,7 +80,7 @@ fn makefile_directory(name: &str) -> Option<&str>
     }
 }
 
-/// What follows the first slash in the name of a file of a ports tree.
+/// The path in its ports tree of a file with this name: what follows the first slash.
 fn after_slash(text: &str) -> Option<&str>
     ensures { option_copied result ≡ dirs.after_slash text.now }
 {
@@ -176,7 +176,7 @@ fn add_words(
     Ok(())
 }
 
-/// The path that a word of a directory's list names, if the word chooses flavors.
+/// The path of the tree that a word of a directory's list names, if the word chooses flavors.
 fn path_of_word(alloc: Global, directory: &str, word: &str) -> Result<Option<String>, AllocError>
     ensures { IfOk result (GivesPath (dirs.path_of_word directory.now word.now)) }
 {

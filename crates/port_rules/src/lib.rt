@@ -8,7 +8,7 @@ mod flavors;
 mod laws;
 mod package_names;
 mod packages;
-mod port;
+mod port_record;
 mod records;
 mod text_sets;
 
@@ -17,5 +17,5 @@ pub use depends::{Depend, DependKind};
 pub use flavors::PortFlavors;
 pub use laws::records_cost_few;
 pub use packages::Package;
-pub use port::PortRecord;
+pub use port_record::PortRecord;
 pub use records::{Recorded, record};

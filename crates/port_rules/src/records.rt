@@ -2,7 +2,7 @@
 ghost use Rattle.mk_eval.specs.Outcome as outcome;
 ghost use Rattle.port_rules.specs.Records.{record_of};
 
-use crate::port::{PortRecord, read_port};
+use crate::port_record::{PortRecord, read_port};
 use mk_base::{Budget, PureStop, UNITS};
 use mk_eval::{Evaluated, Failed, with_units};
 use mk_paths::Name;

@@ -56,7 +56,7 @@ fn path_text(alloc: Global, path: &SearchPath) -> Result<String, AllocError>
     joined(alloc, trees[0].as_str(), &trees[1..])
 }
 
-/// The first tree of a search path, and each other tree after a colon.
+/// The text of a search path for the table of settings: its first tree, and each other tree after a colon.
 fn joined(alloc: Global, first: &str, more: &[String]) -> Result<String, AllocError>
     ensures { JoinsTrees result first.now more.now }
 {

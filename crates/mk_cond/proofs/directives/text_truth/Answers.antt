@@ -11,7 +11,7 @@ use Rattle.mk_cond_tree.specs.Laws.{ConditionsAreRead}
 use Rattle.mk_cond.specs.Leaves.{Surroundings}
 use Rattle.mk_cond.specs.Truths.{or_truth}
 use Rattle.mk_cond.specs.Truth.{readable, tree_read, condition_truth}
-use Rattle.mk_cond.proofs.truth_values.text_truth.Goals as goal
+use Rattle.mk_cond.proofs.directives.text_truth.Goals as goal
 
 none_read : (law : ConditionsAreRead) (text : List ℕ) (found : Option OrTree) → left_of text ≡ [] → ((tree : OrTree) → IsConditionOf text tree → ⊥) → tree_in (outside text) ≡ found → found ≡ None
 none_read law text None ends none is = refl

@@ -8,7 +8,7 @@ use Rattle.mk_ref.specs.Units.{units_of, left_of}
 use Rattle.mk_ref.specs.Pieces.{TextPiece, pieces_of}
 use Rattle.mk_ref.specs.Places.{piece_in_text}
 use Rattle.mk_cond.specs.Leaves.{is_reference, is_reference_piece, refers, has_reference}
-use Rattle.mk_cond.proofs.sides.has_reference.Goals as goal
+use Rattle.mk_cond.proofs.lone_sides.has_reference.Goals as goal
 
 same_piece : (text : List ℕ) (piece : Piece) → is_reference_piece piece ≡ is_reference (piece_in_text text piece)
 same_piece text (v.Literal span) = refl

@@ -1,4 +1,4 @@
-//! The truth value of a condition under its directive.
+//! The truth of a condition under its directive: a word and the condition, or a condition in its form.
 ghost use Rattle.std.specs.Prelude.{Some};
 ghost use Rattle.mk_cond.specs.Tasks.{DoesCondition, DoesDirective, TellsTruth};
 
