@@ -27,8 +27,8 @@ pub record Looks (before after : FilesView) (key : EvalKey) (old new : CacheValu
   pub order : new.traces ≡ looked_at found.0 (key_of key) old
 
 -- where a look succeeds, it is one under this key among these files
-abbrev pub LooksUnder : {F : Type 0} → Result (Look × ℕ) F → FilesView → FilesView → EvalKey → CacheValue → CacheValue → Type 0
-LooksUnder result before after key old new = IfOk result (Looks before after key old new)
+abbrev pub LooksUnder : {X F : Type 0} → (X → FilesView) → Result (Look × ℕ) F → X → X → EvalKey → CacheValue → CacheValue → Type 0
+LooksUnder view result before after key old new = IfOk result (Looks (view before) (view after) key old new)
 
 -- All that is kept stays, and so does what the cache is used for. Only the counts and the order of keys may change.
 pub record KeepsAllKept (old new : CacheValue) : Type 0 where

@@ -128,7 +128,7 @@ impl EvalCache {
         key: &EvalKey,
         files: &mut F,
     ) -> Result<(Look, u64), FilesFault>
-        ensures looks { LooksUnder result (F.view files.old) (F.view files.new) key.now self.old self.new }
+        ensures looks { LooksUnder F.view result files.old files.new key.now self.old self.new }
         ensures fails { FailsChecking F.fails_with result (F.view files.old) (F.view files.new) }
         ensures err { OnErr result (self.new ≡ self.old) }
         ensures kept { KeepsAllKept self.old self.new }
