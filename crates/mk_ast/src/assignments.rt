@@ -16,7 +16,8 @@ fn is_mark(byte: u8) -> bool
     byte == b':' || byte == b'!'
 }
 
-/// Whether `:` or `!`, the marks that make a dependency, is among these bytes of a line.
+/// Whether a line with these bytes before its `=` is no assignment: `:` or `!`, the marks that make a
+/// dependency, is among them.
 pub(crate) fn has_mark(bytes: &[u8]) -> bool
     ensures { result ≡ list_any is_mark bytes.now }
 {

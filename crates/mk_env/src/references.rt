@@ -252,7 +252,8 @@ fn is_literal(modifier: &Modifier) -> bool
     }
 }
 
-/// What the parts of the old or the new text of `:S` expand to, joined from the left, given the old text.
+/// What references in the old or the new text of a reference's `:S` mean: what the text's parts expand to,
+/// joined from the left, given the old text.
 #[cycle(expansion)]
 fn expand_parts(
     alloc: Global,

@@ -215,7 +215,7 @@ fn store_default(env: &mut Env, name: &str, text: &str) -> Result<(), PureStop<F
     Ok(())
 }
 
-/// Adds a text to the end of the variable's text, as a line with `+=` says. If the whole is too long, that is
+/// Does what a line with `+=` says: a text is added to the end of the variable's text. If the whole is too long, that is
 /// the fault `Length`.
 fn append(env: &mut Env, name: &str, text: &str) -> Result<(), PureStop<FaultKind>>
     ensures gives { AssignsFreely operators.Append name.now text.now env.old env.new result }

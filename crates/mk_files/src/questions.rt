@@ -14,7 +14,7 @@ use crate::files::Files;
 use mk_base::{Budget, FaultKind, Stop};
 use mk_paths::{FilesFault, Name, Names};
 
-/// How work on a makefile stops if a question about files failed with this fault.
+/// How a question about files stops the work on a makefile, if it failed with this fault.
 fn stop_of<K>(fault: FilesFault) -> Stop<K>
     ensures { result ≡ after_questions.stop_of fault }
 {

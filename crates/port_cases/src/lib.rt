@@ -8,8 +8,8 @@ mod given;
 mod kept_look;
 mod paths;
 mod records;
+mod refresh_answers;
 mod refreshes;
-mod told_turns;
 
 use case_lines::{Answer, Trouble};
 use make_cases::Setup;

@@ -6,7 +6,7 @@ ghost use Rattle.index_keep.specs.Keeper.{IsDone, IsKept, IsKeptOver};
 ghost use Rattle.index_keep.specs.Right.{LeavesAskedFiles};
 
 use crate::given::{Given, Limit, TurnGiven};
-use crate::told_turns::tell_turns;
+use crate::refresh_answers::tell_turns;
 use case_lines::{Answer, Trouble, as_number};
 use eval_cache::EvalCache;
 use index_keep::{Keeper, Refreshed};
@@ -316,7 +316,7 @@ fn turns_of_stale(
     turns_of_new_cache(alloc, &mut keeper, &mut recorder, settings, given)
 }
 
-/// What each turn of a case's refresh tells, with a new cache. `None` if it has no end.
+/// The turns of a case's refresh with a new cache, each with what it tells. `None` if they have no end.
 fn turns_of_new_cache<F: Listing + Drop>(
     alloc: Global,
     keeper: &mut Keeper<IndexStore>,
