@@ -181,7 +181,7 @@ impl NamedDirectory {
         }
     }
 
-    /// The flavors with which the makefile of a path is evaluated, if the path gives any.
+    /// The flavors of a path that is evaluated for its row, if the path gives any.
     fn flavors(&self) -> Option<&[String]>
         ensures { LendsFlavors self.now result }
     {

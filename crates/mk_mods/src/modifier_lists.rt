@@ -228,7 +228,7 @@ fn pattern_from<'m, 't>(
     Ok((pattern, &[]))
 }
 
-/// The substitution `:S`, read from its delimiter on, and the marks after it.
+/// Reads a modifier of a list that is a substitution, `:S`, from its delimiter on; and the marks after it.
 fn substitution_from<'m, 't>(
     alloc: Global,
     marks: &'m [Mark<'t>],

@@ -49,7 +49,7 @@ fn is_there_if_makefile<F: Names>(
     is_there(alloc, files, name)
 }
 
-/// Whether a text is the name of a makefile that is there.
+/// Whether a changed name is that of a makefile, and the makefile is there.
 fn is_there<F: Names>(alloc: Global, files: &mut F, text: &str) -> Result<bool, FilesFault>
     ensures there { IfOk result (SaysIsThere text.now (F.view files.old).files) }
     ensures keeps { KeepsFiles (result_err result) (F.view files.old) (F.view files.new) }

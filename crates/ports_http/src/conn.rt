@@ -182,7 +182,7 @@ fn request_at(alloc: Global, unread: &[u8], whole: &Whole) -> Result<Request, Al
     })
 }
 
-/// The key of a request, copied from the unread bytes, if the request has one.
+/// A copy of the key among a connection's unread bytes, if the request that comes first there has one.
 fn key_at(alloc: Global, unread: &[u8], key: Option<Span>) -> Result<Option<Vec<u8>>, AllocError>
     requires { IfSome key (IsWithin (length unread.now)) }
     ensures { GivesKey result unread.now key }

@@ -131,14 +131,14 @@ fn texts_meet(sign: OperatorSign, value: &str, texts: &[String]) -> bool
     }
 }
 
-/// Whether some text of a candidate's field is the value of a condition.
+/// Whether a candidate meets a condition since some text of its field is the condition's value.
 fn some_is(texts: &[String], value: &str) -> bool
     ensures { result ≡ list_any (λ text. bytes_eq (string_bytes text) value.now) texts.now }
 {
     texts.iter().any(|text| text.as_str() == value)
 }
 
-/// Whether the value of a condition is a part of some text of a candidate's field.
+/// Whether a candidate meets a condition since some text of its field has the condition's value as a part.
 fn some_has_part(texts: &[String], value: &str) -> bool
     ensures { result ≡ list_any (λ text. meets.has_part value.now (string_bytes text)) texts.now }
 {

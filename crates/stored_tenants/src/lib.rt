@@ -1,10 +1,10 @@
 //! The worlds of all tenants, with an index of each that is kept, and a request answered over one of them.
 #![tactic(auto)]
 
-mod all_tenants;
 mod asking;
+mod stored_tenants;
 mod tenant;
 mod tenant_turns;
 mod tenants;
 
-pub use all_tenants::StoredTenants;
+pub use stored_tenants::StoredTenants;

@@ -1,6 +1,6 @@
 //! Worked cases of cut streams: a stream ends after any of its bytes, or comes byte by byte.
-use crate::case_requests::{config, happen};
-use crate::service::service_of_one;
+use crate::service::{config, service_of_one};
+use crate::service_requests::happen;
 use case_lines::{Answer, Trouble};
 use ports_core::{Event, Step, Tell, Told, Transcript, replay};
 use portsd_text::read_script;

@@ -4,7 +4,6 @@
 //! a list of its calls on top.
 #![tactic(auto)]
 
-mod case_requests;
 mod cut_streams;
 mod failing_files;
 mod failing_streams;
@@ -17,6 +16,7 @@ mod program_runs;
 mod quiet_ports;
 mod request_turns;
 mod service;
+mod service_requests;
 mod slow_client;
 mod socket_clients;
 mod subjects;

@@ -1,7 +1,7 @@
 //! Worked cases of the turns that a request takes: what each turn tells, with the store's steps limited in
 //! some of them.
-use crate::case_requests::{CaseRequest, ask, ask_within, happen, send};
 use crate::service::StoredService;
+use crate::service_requests::{CaseRequest, ask, ask_within, happen, send};
 use case_lines::{Answer, Trouble, as_number};
 use http::StatusCode;
 use ports_core::{Event, Job, Tell};

@@ -2,8 +2,8 @@
 //! means.
 use crate::service::StoredService;
 use crate::{
-    case_requests, cut_streams, failing_files, failing_streams, http_calls, loopback_client,
-    plain_requests, program_runs, service, slow_client, turn_orders, visitors,
+    cut_streams, failing_files, failing_streams, http_calls, loopback_client, plain_requests,
+    program_runs, service, service_requests, slow_client, turn_orders, visitors,
 };
 use case_lines::{Answer, Bench, Ran, Trouble};
 use index_store::IndexStore;
@@ -71,7 +71,7 @@ impl<'a, N: Net> Subjects<'a, N> {
     /// What a call `service ..` of a worked case gives, if a service is set up as a subject.
     fn answer_of_service(&mut self, call: &str, given: &[Vec<u8>]) -> Result<Answer, Trouble> {
         match &mut self.service {
-            Some(service) => case_requests::answer(self.alloc, service, call, given),
+            Some(service) => service_requests::answer(self.alloc, service, call, given),
             None => Err(Trouble::NoCase),
         }
     }
@@ -93,7 +93,7 @@ impl<N: Net> Bench for Subjects<'_, N> {
         match call {
             "empty stores" => self.stores = Some(store_cases::empty(self.alloc)?),
             "empty rows" => self.rows = Some(store_cases::rows::empty(self.alloc)?),
-            "new service" => self.service = Some(case_requests::new(self.alloc, given)?),
+            "new service" => self.service = Some(service::new_service(self.alloc, given)?),
             _ => self.setup.set_up(call, given)?,
         }
         Ok(())

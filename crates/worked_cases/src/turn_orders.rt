@@ -1,5 +1,6 @@
 //! Worked cases of turn orders: the turns of two tenants, in every order.
-use crate::case_requests::{config, happen};
+use crate::service::config;
+use crate::service_requests::happen;
 use case_lines::{Answer, Trouble, as_number};
 use ports_core::{Event, Transcript, replay};
 use portsd_text::{Script, read_script};

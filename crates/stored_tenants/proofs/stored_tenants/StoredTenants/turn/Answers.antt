@@ -12,8 +12,8 @@ use Rattle.stored_tenants.proofs.KeptLemmas.{refill_same}
 use Rattle.stored_tenants.proofs.ShareLemmas.{IsUsed-cache}
 use Rattle.stored_tenants.proofs.JobLemmas.{job_same}
 use Rattle.stored_tenants.proofs.WorldLemmas.{answers_for, work_answers, work_charges, work_goes_on, place_is, if_none}
-use Rattle.stored_tenants.proofs.all_tenants.StoredTenants.turn.Goals as goal
-use Rattle.stored_tenants.proofs.all_tenants.StoredTenants.turn.Goals.{in-Ok, in-Err}
+use Rattle.stored_tenants.proofs.stored_tenants.StoredTenants.turn.Goals as goal
+use Rattle.stored_tenants.proofs.stored_tenants.StoredTenants.turn.Goals.{in-Ok, in-Err}
 
 pub turn_at-requires-clause-there : goal.turn_at-requires-clause-there
 turn_at-requires-clause-there c =

@@ -4,7 +4,7 @@ use Rattle.std.specs.Prelude.{replicate}
 use Rattle.mk_paths.specs.World.{opening_world}
 use Rattle.ports_core.specs.Jobs.{TenantJob}
 use Rattle.stored_tenants.proofs.ShareLemmas.{unused-new}
-use Rattle.stored_tenants.proofs.all_tenants.StoredTenantsTenants.new.Goals as goal
+use Rattle.stored_tenants.proofs.stored_tenants.StoredTenantsTenants.new.Goals as goal
 
 pub returns-clause-worlds : goal.returns-clause-worlds
 returns-clause-worlds c = c.in_ok-tenants.ensures.worlds ∙ ap (λ n. replicate n opening_world) (omega (arith, c.in_ok-tenants.ensures.count))

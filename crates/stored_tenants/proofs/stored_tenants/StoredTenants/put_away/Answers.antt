@@ -6,7 +6,7 @@ use Rattle.stored_tenants.specs.Kept.{AreRightTenants, jobs_of, worlds_of}
 use Rattle.stored_tenants.specs.Shared.{sharing_in}
 use Rattle.stored_tenants.specs.Stored.{Stored}
 use Rattle.stored_tenants.proofs.KeptLemmas.{refill_same}
-use Rattle.stored_tenants.proofs.all_tenants.StoredTenants.put_away.Goals as goal
+use Rattle.stored_tenants.proofs.stored_tenants.StoredTenants.put_away.Goals as goal
 
 pub returns : goal.returns
 returns c =

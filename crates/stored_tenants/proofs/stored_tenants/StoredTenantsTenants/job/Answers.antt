@@ -5,7 +5,7 @@ use Rattle.stored_tenants.specs.declared.tenant.Tenant.{Tenant}
 use Rattle.stored_tenants.specs.Kept.{job_of}
 use Rattle.stored_tenants.proofs.JobLemmas.{job_past, job_there}
 use Rattle.stored_tenants.proofs.WorldLemmas.{past_is, within_is}
-use Rattle.stored_tenants.proofs.all_tenants.StoredTenantsTenants.job.Goals as goal
+use Rattle.stored_tenants.proofs.stored_tenants.StoredTenantsTenants.job.Goals as goal
 
 pub returns-in-Some : goal.returns-in-Some
 returns-in-Some c =

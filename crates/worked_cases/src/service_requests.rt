@@ -1,17 +1,14 @@
-//! Case requests: requests of worked cases to the service over its store, in a row, each on a connection of
-//! its own.
+//! The calls `service ..` of worked cases: requests to the service over its store, in a row, each on a
+//! connection of its own.
 use crate::plain_requests::reply_answer;
 use crate::request_turns::{self, Counted, Limit, take_turns};
-use crate::service::StoredService;
+use crate::service::{KEYS, StoredService};
 use case_lines::{Answer, Trouble, as_number, as_text};
 use http::StatusCode;
-use ports_core::{Config, Event, Service, Told};
+use ports_core::{Event, Told};
 use ports_http::{Method, Reply};
 use std::alloc::Global;
 use store_cases::{MOST_LIMITS, filled, stops_answer};
-
-/// The keys of the tenants that make case requests, by their numbers.
-const KEYS: [&str; 2] = ["alpha", "beta"];
 
 /// A case request: what a tenant asks the service in a worked case.
 #[derive(Clone, Copy)]
@@ -37,47 +34,6 @@ impl<'a> CaseRequest<'a> {
             body,
         })
     }
-}
-
-/// How many parses and evaluations the service for case requests keeps if a line doesn't say.
-const SIZES: (u32, u32) = (256, 1024);
-
-/// The lines `new service`, `new service PARSES EVALS` of a worked case: a service for the tenants 0 and 1,
-/// with a cache of these sizes.
-pub fn new(alloc: Global, given: &[Vec<u8>]) -> Result<StoredService, Trouble> {
-    Service::new(alloc, config(alloc, given)?).map_err(|_| Trouble::NoCase)
-}
-
-/// The config of the service for case requests: the tenants 0 and 1, with a cache of these sizes.
-pub fn config(alloc: Global, given: &[Vec<u8>]) -> Result<Config, Trouble> {
-    let mut keys = Vec::new(alloc);
-    for key in KEYS {
-        keys.push(String::from_str(alloc, key)?)?;
-    }
-    let (parses, evals) = sizes(given)?;
-    Ok(Config {
-        keys,
-        parses,
-        evals,
-    })
-}
-
-/// The sizes of the cache that a worked case gives to the service for case requests.
-fn sizes(given: &[Vec<u8>]) -> Result<(u32, u32), Trouble> {
-    match given {
-        [] => Ok(SIZES),
-        [parses, evals] => Ok((size(parses)?, size(evals)?)),
-        _ => Err(Trouble::NoCase),
-    }
-}
-
-/// One size of the cache that a worked case gives to the service for case requests.
-fn size(given: &[u8]) -> Result<u32, Trouble> {
-    let size = as_number(given)?;
-    if size > u32::MAX as u64 {
-        return Err(Trouble::NoCase);
-    }
-    Ok(size as u32)
 }
 
 /// What a call `service ..` of a worked case gives: what the service answers to case requests.

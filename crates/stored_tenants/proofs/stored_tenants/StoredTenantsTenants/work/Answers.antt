@@ -1,5 +1,5 @@
 -- Bounding the indexes in memory changes no world, no job and nothing that is shared.
-use Rattle.stored_tenants.proofs.all_tenants.StoredTenantsTenants.work.Goals as goal
+use Rattle.stored_tenants.proofs.stored_tenants.StoredTenantsTenants.work.Goals as goal
 
 pub returns-clause-answers : goal.returns-clause-answers
 returns-clause-answers c = rw c.bound_indexes.ensures c.turn-worked.ensures.answers

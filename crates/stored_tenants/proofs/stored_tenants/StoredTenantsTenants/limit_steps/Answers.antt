@@ -2,7 +2,7 @@
 use Rattle.std.proofs.Common.{◌∙◌, length, ap, subst, sym, arith}
 use Rattle.stored_tenants.specs.Kept.{AreRightTenants}
 use Rattle.stored_tenants.proofs.KeptLemmas.{refill_same}
-use Rattle.stored_tenants.proofs.all_tenants.StoredTenantsTenants.limit_steps.Goals as goal
+use Rattle.stored_tenants.proofs.stored_tenants.StoredTenantsTenants.limit_steps.Goals as goal
 
 pub invariant_of-self : goal.invariant_of-self
 invariant_of-self c =
