@@ -18,13 +18,13 @@ use Rattle.read_trace.specs.Agreement.{IsAnswered}
 
 -- A look under a key among files: what was found, after how many checks, and which answers were checked for that. At most as
 -- many are checked as the traces under a key have. A hit is counted, and its key stands first from now on.
-pub record Looks (before after : FilesView) (key : EvalKey) (old new : CacheValue) (found : Look × ℕ) : Type 0 where
-  pub found : IsFound before.files (key_of key) (traces_at old (key_of key)) found.1 found.0
-  pub checks : found.1 ≡ (agreeing before.files (traces_at old (key_of key))).1
-  pub few : found.1 ≤ MOST_CHECKS
+pub record Looks (before after : FilesView) (key : EvalKey) (old new : CacheValue) (came : Look × ℕ) : Type 0 where
+  pub found : IsFound before.files (key_of key) (traces_at old (key_of key)) came.1 came.0
+  pub checks : came.1 ≡ (agreeing before.files (traces_at old (key_of key))).1
+  pub few : came.1 ≤ MOST_CHECKS
   pub asked : ChecksAmong before (traces_at old (key_of key)) after
-  pub counted : new.counts ≡ count_look found.0 old.counts
-  pub order : new.traces ≡ looked_at found.0 (key_of key) old
+  pub counted : new.counts ≡ count_look came.0 old.counts
+  pub order : new.traces ≡ looked_at came.0 (key_of key) old
 
 -- where a look succeeds, it is one under this key among these files
 abbrev pub LooksUnder : {X F : Type 0} → (X → FilesView) → Result (Look × ℕ) F → X → X → EvalKey → CacheValue → CacheValue → Type 0
