@@ -4,7 +4,7 @@
 
 mod alike_rows;
 mod asked_names;
-mod flavored_targets;
+mod flavored_paths;
 mod known_index;
 mod laws;
 mod makefiles;
@@ -18,7 +18,7 @@ mod tree_paths;
 
 pub use alike_rows::{are_same, name_alike};
 pub use asked_names::insert_text;
-pub use flavored_targets::flavored_targets;
+pub use flavored_paths::flavored_targets;
 pub use known_index::{IndexPaths, KnownIndex};
 pub use laws::{
     alike_rows_list_the_same, known_rows_are_enough, listed_paths_cost_no_more,

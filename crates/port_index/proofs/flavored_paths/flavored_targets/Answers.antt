@@ -7,7 +7,7 @@ use Rattle.port_deps.specs.ItemText.{has_comma}
 use Rattle.port_index.specs.Dependencies.{target_by}
 use Rattle.port_index.specs.Flavored.{flavored_target}
 use Rattle.port_index.proofs.FlavoredLemmas.{filter-targets}
-use Rattle.port_index.proofs.flavored_targets.flavored_targets.Goals as goal
+use Rattle.port_index.proofs.flavored_paths.flavored_targets.Goals as goal
 
 pub loop-depend-preserved : goal.loop-depend-preserved
 loop-depend-preserved c =

@@ -3,7 +3,7 @@ use Rattle.std.proofs.Common.{◌∙◌, ap, sym, subst}
 use Rattle.port_deps.specs.ItemText.{NamesPlainPath}
 use Rattle.port_index.specs.Flavored.{if_flavored}
 use Rattle.port_index.proofs.FlavoredLemmas.{none-plain}
-use Rattle.port_index.proofs.flavored_targets.flavored_target.Goals as goal
+use Rattle.port_index.proofs.flavored_paths.flavored_target.Goals as goal
 
 pub returns-then-not-has_comma : goal.returns-then-not-has_comma
 returns-then-not-has_comma c =
