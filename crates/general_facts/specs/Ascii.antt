@@ -101,7 +101,7 @@ equals_sign = 61
 abbrev pub greater_sign : ℕ
 greater_sign = 62
 
--- ?
+-- The question mark
 abbrev pub question_mark : ℕ
 question_mark = 63
 
