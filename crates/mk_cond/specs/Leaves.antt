@@ -12,7 +12,7 @@ use Rattle.mk_base.specs.Outcome.{Work, give, fail, ◌>>=◌}
 use Rattle.mk_text.specs.Words.{words_of, span_text}
 use Rattle.mk_ref.specs.declared.pieces_of_text.Piece.{Piece}
 use Rattle.mk_ref.specs.declared.pieces_of_text.Piece.TheVariants as pieces
-use Rattle.mk_ref.specs.Units.{units_of, left_of}
+use Rattle.mk_ref.specs.Atoms.{atoms_of, left_of}
 use Rattle.mk_ref.specs.Pieces.{TextPiece, LiteralPiece, EscapedDollarPiece, ReferencePiece, pieces_of}
 use Rattle.mk_env.specs.Texts.{Variables, text_in}
 use Rattle.mk_env.specs.Expansion.{expand, inside_meaning}
@@ -143,7 +143,7 @@ refers [] found = list_any is_reference found
 refers (b ∷ left) found = true
 
 unfoldable pub has_reference : List ℕ → Bool
-has_reference text = refers (left_of text) (pieces_of (units_of text))
+has_reference text = refers (left_of text) (pieces_of (atoms_of text))
 
 -- a word alone, without a reference: a number holds unless it is 0, and any other word is the argument of
 -- what the directive asks

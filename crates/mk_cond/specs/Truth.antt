@@ -3,7 +3,7 @@ use Rattle.std.specs.Prelude.{ℕ, Bool, not, if◌then◌else◌, List, [], ◌
 use Rattle.mk_base.specs.declared.faults.FaultKind.{FaultKind}
 use Rattle.mk_base.specs.declared.faults.FaultKind.TheVariants as kinds
 use Rattle.mk_base.specs.Outcome.{Work, give, fail, ◌>>=◌}
-use Rattle.mk_ref.specs.Units.{left_of}
+use Rattle.mk_ref.specs.Atoms.{left_of}
 use Rattle.mk_ref.specs.Outside.{outside}
 use Rattle.mk_env.specs.Texts.{Variables}
 use Rattle.mk_paths.specs.World.{FileMap}

@@ -1,6 +1,6 @@
 -- A text's tree, from the tree of what is outside its references.
 use Rattle.std.proofs.Common.{◌≡◌, ◌≢◌, ◌↔◌, ℕ, List, [], length, Option, Some, None, refl, sym, ap, ◌∙◌, arith, length-drop}
-use Rattle.mk_ref.specs.Units.{left_of}
+use Rattle.mk_ref.specs.Atoms.{left_of}
 use Rattle.mk_ref.specs.Outside.{outside}
 use Rattle.mk_ref.specs.Places.{IsUnclosedAt}
 use Rattle.mk_cond_tree.specs.declared.tokens.Token.{Token}

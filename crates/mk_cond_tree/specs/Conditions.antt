@@ -1,6 +1,6 @@
 -- The condition that a text is.
 use Rattle.std.specs.Prelude.{◌≡◌, ◌≢◌, ℕ, List, [], Option, Some, None, ⊤}
-use Rattle.mk_ref.specs.Units.{left_of}
+use Rattle.mk_ref.specs.Atoms.{left_of}
 use Rattle.mk_ref.specs.Outside.{outside}
 use Rattle.mk_cond_tree.specs.declared.tokens.Token.{Token}
 use Rattle.mk_cond_tree.specs.declared.condition.ConditionError.{ConditionError}

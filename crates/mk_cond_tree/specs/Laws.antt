@@ -1,6 +1,6 @@
 -- What holds of every list of tokens.
 use Rattle.std.specs.Prelude.{◌≡◌, ◌↔◌, ℕ, List, [], Some}
-use Rattle.mk_ref.specs.Units.{left_of}
+use Rattle.mk_ref.specs.Atoms.{left_of}
 use Rattle.mk_ref.specs.Outside.{outside}
 use Rattle.mk_cond_tree.specs.declared.tokens.Token.{Token}
 use Rattle.mk_cond_tree.specs.Trees.{OrTree, IsTreeOf}

@@ -2,7 +2,7 @@
 ghost use Rattle.std.specs.Prelude.{◌≡◌, ◌≢◌, [], true, false, option_map, All, IfOk, IfErr};
 ghost use Rattle.refusals.specs.Refused.{refused};
 ghost use Rattle.mk_cond_tree.specs.declared.condition.ConditionError.TheVariants as errors;
-ghost use Rattle.mk_ref.specs.Units.{left_of};
+ghost use Rattle.mk_ref.specs.Atoms.{left_of};
 ghost use Rattle.mk_cond_tree.specs.Trees.{or_tokens};
 ghost use Rattle.mk_cond_tree.specs.Placed.{IsTokenIn};
 ghost use Rattle.mk_cond_tree.specs.Views.{condition_tree};

@@ -10,8 +10,8 @@ use Rattle.mk_base.specs.declared.faults.FaultKind.TheVariants as kinds
 use Rattle.mk_base.specs.Meter.{Meter, pay}
 use Rattle.mk_base.specs.Outcome.{after, each, give, fail}
 use Rattle.mk_base.specs.Stops.{StopsPurelyAt, GivesPurely}
-use Rattle.mk_ref.specs.Units.{units_of, left_of}
-use Rattle.mk_ref.specs.Units.{Byte as TextByte}
+use Rattle.mk_ref.specs.Atoms.{atoms_of, left_of}
+use Rattle.mk_ref.specs.Atoms.{Byte as TextByte}
 use Rattle.mk_ref.proofs.PlainTexts.{cut-plain}
 use Rattle.mk_ref.specs.Pieces.{TextPiece, LiteralPiece, with_byte, pieces_of}
 use Rattle.mk_text.specs.declared.limits.TheConstants.{TEXT_LIMIT}
@@ -24,11 +24,11 @@ use Rattle.mk_env.specs.Refusals.{IsUncut, IsTooLong}
 use Rattle.mk_env.proofs.Walks.{each-nothing, each-one}
 
 -- a text with these pieces means what they mean, joined
-pub text_meaning-pieces : (references : References) (text : List ℕ) (found : List TextPiece) (m : Meter) → left_of text ≡ [] → found ≡ pieces_of (units_of text)
+pub text_meaning-pieces : (references : References) (text : List ℕ) (found : List TextPiece) (m : Meter) → left_of text ≡ [] → found ≡ pieces_of (atoms_of text)
     → text_meaning references text m ≡ each (join_piece references) [] found m
 unfolding text_meaning
 text_meaning-pieces references text found m whole is =
-    ap (λ left. where_whole references left (pieces_of (units_of text)) m) whole ∙ ap (λ pieces. each (join_piece references) [] pieces m) (sym is)
+    ap (λ left. where_whole references left (pieces_of (atoms_of text)) m) whole ∙ ap (λ pieces. each (join_piece references) [] pieces m) (sym is)
 
 left-over : (references : References) (left : List ℕ) (pieces : List TextPiece) (m : Meter) → left ≢ [] → where_whole references left pieces m ≡ Err (kinds.Reference, m)
 left-over references [] pieces m some = absurd (some refl)
@@ -36,7 +36,7 @@ left-over references (b ∷ left) pieces m some = refl
 
 text_meaning-unclosed : (references : References) (text : List ℕ) (m : Meter) → left_of text ≢ [] → text_meaning references text m ≡ Err (kinds.Reference, m)
 unfolding text_meaning
-text_meaning-unclosed references text m some = left-over references (left_of text) (pieces_of (units_of text)) m some
+text_meaning-unclosed references text m some = left-over references (left_of text) (pieces_of (atoms_of text)) m some
 
 -- a text that isn't cut stops there
 pub text_meaning-uncut : (references : References) (text : List ℕ) (stop : PureStop FaultKind) (m : Meter) → IsUncut text stop → StopsPurelyAt stop m (text_meaning references text m)

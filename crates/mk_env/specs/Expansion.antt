@@ -10,7 +10,7 @@ use Rattle.mk_base.specs.declared.faults.FaultKind.TheVariants as kinds
 use Rattle.mk_base.specs.Meter.{Meter, pay}
 use Rattle.mk_base.specs.Outcome.{Work, give, fail, each, ◌>>=◌}
 use Rattle.mk_text.specs.Words.{words_of}
-use Rattle.mk_ref.specs.Units.{TextUnit, sources, before_colon, following_colon, units_of, left_of}
+use Rattle.mk_ref.specs.Atoms.{TextAtom, sources, before_colon, following_colon, atoms_of, left_of}
 use Rattle.mk_ref.specs.Pieces.{TextPiece, LiteralPiece, EscapedDollarPiece, ReferencePiece, pieces_of}
 use Rattle.mk_text.specs.declared.limits.TheConstants.{TEXT_LIMIT}
 use Rattle.mk_mods.specs.Actions.{Symbol, Byte, Whole, Reference, Action, Match, Exclude, Substitute, Change, Suffix}
@@ -57,7 +57,7 @@ where_whole references (b ∷ left) pieces = fail kinds.Reference
 
 -- what a text means, given what its references mean
 unfoldable pub text_meaning : References → Meaning
-text_meaning references text m = where_whole references (left_of text) (pieces_of (units_of text)) m
+text_meaning references text m = where_whole references (left_of text) (pieces_of (atoms_of text)) m
 
 -- what a symbol of `:S` means, given the old text: a reference is expanded as a text of its own
 abbrev pub symbol_meaning : References → List ℕ → Symbol → Work Meter FaultKind (List ℕ)
@@ -164,17 +164,17 @@ expand_now variables = text_meaning (reference kept.Kept 32 variables [])
 abbrev pub variable : Variables → Meaning
 variable variables name = pay >>= λ _. named_meaning (reference kept.Empty 31 variables) variables [] name None
 
--- What a reference means that is given by its inside, of which these units are read and this is left. Its
--- name is the units before the first colon outside references. Its modifiers are the units after that colon.
+-- What a reference means that is given by its inside, of which these atoms are read and this is left. Its
+-- name is the atoms before the first colon outside references. Its modifiers are the atoms after that colon.
 -- If a reference inside it doesn't end, that is a fault before anything is paid.
-abbrev pub by_inside : References → List ℕ → List TextUnit → List ℕ → Work Meter FaultKind (List ℕ)
-by_inside references text units [] = references text (sources (before_colon units)) (option_map sources (following_colon units))
-by_inside references text units (b ∷ left) = fail kinds.Reference
+abbrev pub by_inside : References → List ℕ → List TextAtom → List ℕ → Work Meter FaultKind (List ℕ)
+by_inside references text atoms [] = references text (sources (before_colon atoms)) (option_map sources (following_colon atoms))
+by_inside references text atoms (b ∷ left) = fail kinds.Reference
 
 -- What a reference with this inside means, if it isn't inside another reference. A mark that would close it
 -- is a byte like any other. It is never kept as it is written, so only its name and its modifiers count.
 abbrev pub inside_meaning : Variables → Meaning
-inside_meaning variables text = by_inside (reference kept.Empty 32 variables []) text (units_of text) (left_of text)
+inside_meaning variables text = by_inside (reference kept.Empty 32 variables []) text (atoms_of text) (left_of text)
 
 -- What these modifiers make of a text that is given, such as the word that a loop puts in the place of a
 -- reference. That reference is already paid for, and the references in the modifiers count as inside it.

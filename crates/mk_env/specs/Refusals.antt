@@ -5,7 +5,7 @@ use Rattle.mk_base.specs.declared.stops.PureStop.TheVariants as pure
 use Rattle.mk_base.specs.declared.faults.FaultKind.{FaultKind}
 use Rattle.mk_base.specs.declared.faults.FaultKind.TheVariants as kinds
 use Rattle.mk_text.specs.declared.limits.TheConstants.{TEXT_LIMIT}
-use Rattle.mk_ref.specs.Units.{left_of}
+use Rattle.mk_ref.specs.Atoms.{left_of}
 
 -- it stopped at a fault of this kind, and this holds, or it was out of memory
 abbrev pub StopsBy : FaultKind → Type 0 → PureStop FaultKind → Type 0

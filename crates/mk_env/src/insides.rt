@@ -1,7 +1,7 @@
 //! References that are given by their inside, as in `empty(NAME:MODIFIERS)`.
 ghost use Rattle.std.specs.Prelude.{◌≡◌, ◌==◌, ◌<◌, ◌+◌, [], length, take, drop, slice_index, IfOk, IfErr, Some};
 ghost use Rattle.std.specs.List.{position};
-ghost use Rattle.mk_ref.specs.Units.{left_of};
+ghost use Rattle.mk_ref.specs.Atoms.{left_of};
 ghost use Rattle.mk_ref.specs.Outside.{outside};
 ghost use Rattle.mk_env.specs.Mentions.{lent_text, name_inside, modifiers_inside};
 ghost use Rattle.mk_env.specs.Refusals.{IsUncut};

@@ -2,7 +2,7 @@
 //! modifiers.
 ghost use Rattle.std.specs.Prelude.{◌≡◌, [], All, string_bytes, IfOk, IfErr};
 ghost use Rattle.mk_text.specs.Words.{span_text};
-ghost use Rattle.mk_ref.specs.Units.{left_of};
+ghost use Rattle.mk_ref.specs.Atoms.{left_of};
 ghost use Rattle.mk_ref.specs.Places.{IsPieceIn, IsReferenceIn};
 ghost use Rattle.mk_env.specs.Mentions.{HasModifiersOf, GivesPieces};
 ghost use Rattle.mk_env.specs.Refusals.{IsUncut};

@@ -7,10 +7,10 @@ use Rattle.mk_ast.specs.declared.kinds.Directive.TheVariants as words
 use Rattle.mk_ast.specs.declared.kinds.Operator.{Operator}
 use Rattle.mk_ast.specs.declared.kinds.Operator.TheVariants as operators
 use Rattle.mk_ast.specs.Kinds.{TextLineKind, CommandLine, BlankLine, DirectiveLine, AssignmentLine, DependencyLine, BadLine, is_word, line_kind}
-use Rattle.mk_ref.specs.Units.{TextUnit, Byte, EscapedDollar, Reference, units_of, left_of}
+use Rattle.mk_ref.specs.Atoms.{TextAtom, Byte, EscapedDollar, Reference, atoms_of, left_of}
 use Rattle.mk_env.specs.Texts.{Variables, appended, text_in}
 use Rattle.mk_loop.specs.LoopWords.{LoopWords, word_named}
-use Rattle.mk_loop.specs.BodyLine.{SoFar, Puts, nothing, with_loop_word, finished, modified_word, put_reference, put_unit, put_by, put, where_closed, put_words}
+use Rattle.mk_loop.specs.BodyLine.{SoFar, Puts, nothing, with_loop_word, finished, modified_word, put_reference, put_atom, put_by, put, where_closed, put_words}
 use Rattle.mk_loop.specs.Header.{header_parts, formed, header}
 use Rattle.mk_eval.specs.Lines.{Loops, store, assign, assign_to, direct, execute_kind, put_in, read_again, execute_in, perform_kind, perform}
 use Rattle.mk_eval.specs.Heads.{head_text, iterations}
@@ -36,16 +36,16 @@ module _ (words : LoopWords) (variables : Variables) (puts : Puts) (does : PutsS
   steady-put_reference so_far written modifiers None = bind (does.all _ _) (λ found. steady-give _)
   steady-put_reference so_far written modifiers (Some word) = bind steady-pay (λ _. bind (steady-changed modifiers word) (λ found. steady-with_word so_far found))
 
-  steady-put_unit : (so_far : SoFar) (unit : TextUnit) → Steady (put_unit words variables puts so_far unit)
-  steady-put_unit so_far (Byte b) = steady-give _
-  steady-put_unit so_far EscapedDollar = steady-give _
-  steady-put_unit so_far (Reference written name modifiers) = steady-put_reference so_far written modifiers (word_named words name)
+  steady-put_atom : (so_far : SoFar) (atom : TextAtom) → Steady (put_atom words variables puts so_far atom)
+  steady-put_atom so_far (Byte b) = steady-give _
+  steady-put_atom so_far EscapedDollar = steady-give _
+  steady-put_atom so_far (Reference written name modifiers) = steady-put_reference so_far written modifiers (word_named words name)
 
 put_by-steadily : (words : LoopWords) (variables : Variables) (levels : ℕ) → PutsSteadily (put_by words variables levels)
 unfolding put_by
 put_by-steadily words variables zero = record { all = λ so_far text. steady-give so_far }
 put_by-steadily words variables (suc levels) = record {
-  all = λ so_far text. over (steady-put_unit words variables (put_by words variables levels) (put_by-steadily words variables levels)) so_far (units_of text);
+  all = λ so_far text. over (steady-put_atom words variables (put_by words variables levels) (put_by-steadily words variables levels)) so_far (atoms_of text);
 }
 
 steady-put : (words : LoopWords) (variables : Variables) (so_far : SoFar) (text : List ℕ) → Steady (put words variables so_far text)

@@ -2,7 +2,7 @@
 use Rattle.std.proofs.Common.{◌++◌, ℕ, suc, zero, nat_lt, List, [], ◌∷◌, length, Option, Some, None}
 use Rattle.mk_base.specs.declared.faults.FaultKind.TheVariants as kinds
 use Rattle.mk_base.specs.Outcome.{give, fail}
-use Rattle.mk_ref.specs.Units.{units_of, left_of, TextUnit}
+use Rattle.mk_ref.specs.Atoms.{atoms_of, left_of, TextAtom}
 use Rattle.mk_ref.specs.Pieces.{TextPiece, LiteralPiece, EscapedDollarPiece, ReferencePiece, pieces_of}
 use Rattle.mk_text.specs.declared.limits.TheConstants.{TEXT_LIMIT}
 use Rattle.mk_mods.specs.Actions.{Symbol, Byte, Whole, Reference, Action, Match, Exclude, Substitute, Change, Suffix}
@@ -38,7 +38,7 @@ module _ (references : References) (are : AreSteady references) where
 
   pub steady-text : (text : List ℕ) → Steady (text_meaning references text)
   unfolding text_meaning
-  steady-text text = steady-where (left_of text) (pieces_of (units_of text))
+  steady-text text = steady-where (left_of text) (pieces_of (atoms_of text))
 
   steady-symbol : (old : List ℕ) (symbol : Symbol) → Steady (symbol_meaning references old symbol)
   steady-symbol old (Byte b) = steady-give (b ∷ [])
@@ -59,9 +59,9 @@ module _ (references : References) (are : AreSteady references) where
   steady-value None = steady-give []
   steady-value (Some value) = steady-text value
 
-  pub steady-by_inside : (text : List ℕ) (units : List TextUnit) (left : List ℕ) → Steady (by_inside references text units left)
-  steady-by_inside text units [] = are.all text _ _
-  steady-by_inside text units (b ∷ left) = steady-fail kinds.Reference
+  pub steady-by_inside : (text : List ℕ) (atoms : List TextAtom) (left : List ℕ) → Steady (by_inside references text atoms left)
+  steady-by_inside text atoms [] = are.all text _ _
+  steady-by_inside text atoms (b ∷ left) = steady-fail kinds.Reference
 
 module _ (references : List (List ℕ) → References) (are : (active : List (List ℕ)) → AreSteady (references active)) (variables : Variables) (active : List (List ℕ)) where
   pub steady-named : (name : List ℕ) (modifiers : Option (List ℕ)) → Steady (named_meaning references variables active name modifiers)
@@ -89,7 +89,7 @@ pub steady-expand_now : (variables : Variables) (text : List ℕ) → Steady (ex
 steady-expand_now variables text = steady-text _ (are-steady _ 32 variables []) text
 
 pub steady-inside : (variables : Variables) (text : List ℕ) → Steady (inside_meaning variables text)
-steady-inside variables text = steady-by_inside _ (are-steady _ 32 variables []) text (units_of text) (left_of text)
+steady-inside variables text = steady-by_inside _ (are-steady _ 32 variables []) text (atoms_of text) (left_of text)
 
 pub steady-modified_by : (variables : Variables) (modifiers text : List ℕ) → Steady (modified_by variables modifiers text)
 steady-modified_by variables modifiers text =

@@ -1,6 +1,6 @@
 pub mod Rolls
 pub mod Steps
-pub mod UnitPlaces
+pub mod AtomPlaces
 pub mod Paying
 pub mod PassSteps
 pub mod WholeLine

@@ -14,8 +14,8 @@ use Rattle.mk_base.specs.Meter.{Meter, pay}
 use Rattle.mk_base.specs.Outcome.{after}
 use Rattle.mk_base.specs.Stops.{StopsPurelyAt, StopsPurelyAt-whole, GivesPurely}
 use Rattle.mk_ref.specs.declared.opening.Opening.TheVariants.{Letter, Marked}
-use Rattle.mk_ref.specs.Units.{TextUnit, Byte, Reference, source, sources, before_colon, following_colon, opening_of, marked_reference, unit_before, up_to_mark, first_unit, units_of, cut_on, cut}
-use Rattle.mk_ref.proofs.UnitSteps.{opens_with, second_of, cut-next, first-nil}
+use Rattle.mk_ref.specs.Atoms.{TextAtom, Byte, Reference, source, sources, before_colon, following_colon, opening_of, marked_reference, atom_before, up_to_mark, first_atom, atoms_of, cut_on, cut}
+use Rattle.mk_ref.proofs.AtomSteps.{opens_with, second_of, cut-next, first-nil}
 use Rattle.mk_ref.proofs.ScanSteps.{first-opening}
 use Rattle.general_facts.specs.Texts.{alphabetic-ascii}
 use Rattle.mk_ref.proofs.PieceSteps.{MayCut, may_cut}
@@ -28,7 +28,7 @@ use Rattle.mk_loop.specs.LoopWords.{LoopWords, is_reference, word_of, word_named
 use Rattle.mk_loop.specs.BodyLine.{SoFar, nothing, as_written, with_loop_word, put_reference, put}
 use Rattle.mk_loop.specs.Joinings.{so_far}
 use Rattle.mk_loop.specs.Places.{Staying, Changing, Left, Within, mark_of, surrounds, IsLeft, close_reference, goes, closes_first, closes, surround_of, here, HasAsciiMark, IsKeptReference, IsPlaced, HasLeft, ContinuesPass, NameEnds, EndsName}
-use Rattle.mk_loop.proofs.Steps.{BeginsWith, begins-with, closes-left, begins-marked, iteration, goes-unit, goes-closed, stays-marked, replaced-paid, replaced-unpaid, goes-changing}
+use Rattle.mk_loop.proofs.Steps.{BeginsWith, begins-with, closes-left, begins-marked, iteration, goes-atom, goes-closed, stays-marked, replaced-paid, replaced-unpaid, goes-changing}
 
 -- further bytes as they are written
 written-on : (text : List ℕ) (line : List ℕ) (a b c : ℕ) → a ≤ b → b ≤ c → (text ++ slice_range line a b) ++ slice_range line b c ≡ text ++ slice_range line a c
@@ -93,26 +93,26 @@ put-placed line pass end (Ok next) placed near ascii around copied at = after-pl
 put-placed line pass end (Err stop) placed near ascii around copied at = tt
 
 -- a name with a reference in it is that of no loop's variable
-pub named-none : (words : LoopWords) (units : List TextUnit) → cut (sources units) ≡ (units, []) → list_any is_reference units ≡ true → word_named words (sources units) ≡ None
-named-none words units alone any =
-    ap (λ t. cond t None (word_of words (sources units))) (ap (λ x. list_any is_reference x.0) alone ∙ any)
+pub named-none : (words : LoopWords) (atoms : List TextAtom) → cut (sources atoms) ≡ (atoms, []) → list_any is_reference atoms ≡ true → word_named words (sources atoms) ≡ None
+named-none words atoms alone any =
+    ap (λ t. cond t None (word_of words (sources atoms))) (ap (λ x. list_any is_reference x.0) alone ∙ any)
 
-pub named-plain : (words : LoopWords) (units : List TextUnit) → cut (sources units) ≡ (units, []) → list_any is_reference units ≡ false → word_named words (sources units) ≡ word_of words (sources units)
-named-plain words units alone none =
-    ap (λ t. cond t None (word_of words (sources units))) (ap (λ x. list_any is_reference x.0) alone ∙ none)
+pub named-plain : (words : LoopWords) (atoms : List TextAtom) → cut (sources atoms) ≡ (atoms, []) → list_any is_reference atoms ≡ false → word_named words (sources atoms) ≡ word_of words (sources atoms)
+named-plain words atoms alone none =
+    ap (λ t. cond t None (word_of words (sources atoms))) (ap (λ x. list_any is_reference x.0) alone ∙ none)
 
 alone-byte : (n : ℕ) → opening_of (n ∷ []) ≡ None
 alone-byte n = elim (eqb_tells n 36) [ inl dollar ↦ rw dollar.0 refl | inr other ↦ rw other.0 refl ]
 
 -- the word of the variable that a reference names whose name ends here
-pub name-word : (words : LoopWords) (line : List ℕ) (start mark end : ℕ) (units : List TextUnit) (rest text : List ℕ) → NameEnds line start mark end units rest
-    → cut (sources (before_colon units)) ≡ (before_colon units, []) → text ≡ slice_range line start end → word_named words (sources (before_colon units)) ≡ word_of words text
-name-word words line start mark end units rest text ends alone is = named-plain words (before_colon units) alone ends.plain ∙ ap (word_of words) (ends.name ∙ sym is)
+pub name-word : (words : LoopWords) (line : List ℕ) (start mark end : ℕ) (atoms : List TextAtom) (rest text : List ℕ) → NameEnds line start mark end atoms rest
+    → cut (sources (before_colon atoms)) ≡ (before_colon atoms, []) → text ≡ slice_range line start end → word_named words (sources (before_colon atoms)) ≡ word_of words text
+name-word words line start mark end atoms rest text ends alone is = named-plain words (before_colon atoms) alone ends.plain ∙ ap (word_of words) (ends.name ∙ sym is)
 
 cut-letter : (b : ℕ) → cut (b ∷ []) ≡ (Byte b ∷ [], [])
 cut-letter b =
     cut-next (b ∷ []) ∙ ap (cut_on cut (b ∷ [])) (first-opening (b ∷ []) None (alone-byte b))
-    ∙ ap (unit_before (Byte b)) (cut-next [] ∙ ap (cut_on cut []) first-nil)
+    ∙ ap (atom_before (Byte b)) (cut-next [] ∙ ap (cut_on cut []) first-nil)
 
 -- a reference of one letter at a place
 pub record LetterAt (line : List ℕ) (at : ℕ) : Type 0 where
@@ -143,58 +143,58 @@ letter-at line at text room opens =
 pub letter-word : (words : LoopWords) (line : List ℕ) (at : ℕ) (text : List ℕ) (word : Option (List ℕ)) → LetterAt line at → text ≡ slice_range line (at + 1) (at + 2)
     → word ≡ word_of words text → word_named words (take 1 (drop 1 (drop at line))) ≡ word
 letter-word words line at text word h is found =
-    ap (λ l. cond (list_any is_reference (units_of l)) None (word_of words (take 1 (drop 1 (drop at line))))) h.name
+    ap (λ l. cond (list_any is_reference (atoms_of l)) None (word_of words (take 1 (drop 1 (drop at line))))) h.name
     ∙ ap (λ x. cond (list_any is_reference x.0) None (word_of words (take 1 (drop 1 (drop at line))))) (cut-letter h.letter)
     ∙ ap (word_of words) (sym (is ∙ h.within)) ∙ sym found
 
 module _ (words : LoopWords) (variables : Variables) (line : List ℕ) where
-  pub begin : (pass : Pass) (left : Left) (unit : TextUnit) (end : ℕ) → pass.at < length line → OccursAt line pass.at end unit → closes pass (get_or line pass.at 0) ≡ false → HasLeft line pass left
-      → BeginsWith left unit (drop end line)
-  begin pass left unit end near standing other stands =
+  pub begin : (pass : Pass) (left : Left) (atom : TextAtom) (end : ℕ) → pass.at < length line → OccursAt line pass.at end atom → closes pass (get_or line pass.at 0) ≡ false → HasLeft line pass left
+      → BeginsWith left atom (drop end line)
+  begin pass left atom end near standing other stands =
       let first = drop_more line pass.at 0 near in
-      begins-with left (get_or line pass.at 0) (drop (pass.at + 1) line) unit (drop end line) (subst (IsLeft left) first stands.units)
-      (ap first_unit (sym first) ∙ standing.first) (ap (λ l. closes_first l (get_or line pass.at 0)) stands.around ∙ other)
+      begins-with left (get_or line pass.at 0) (drop (pass.at + 1) line) atom (drop end line) (subst (IsLeft left) first stands.atoms)
+      (ap first_atom (sym first) ∙ standing.first) (ap (λ l. closes_first l (get_or line pass.at 0)) stands.around ∙ other)
 
-  -- past a unit that stays as it is written
-  pub pass-on : (pass : Pass) (end : ℕ) (unit : TextUnit) (left : Left) (m : Meter) → IsPlaced line pass → pass.at < length line → OccursAt line pass.at end unit
-      → closes pass (get_or line pass.at 0) ≡ false → ((before : SoFar) → iteration words variables before unit m ≡ Ok (as_written before (source unit), m)) → HasLeft line pass left
+  -- past an atom that stays as it is written
+  pub pass-on : (pass : Pass) (end : ℕ) (atom : TextAtom) (left : Left) (m : Meter) → IsPlaced line pass → pass.at < length line → OccursAt line pass.at end atom
+      → closes pass (get_or line pass.at 0) ≡ false → ((before : SoFar) → iteration words variables before atom m ≡ Ok (as_written before (source atom), m)) → HasLeft line pass left
       → ContinuesPass words variables line pass left m (Ok (record pass { at = end })) m
-  pass-on pass end unit left m placed near standing other same stands =
-      let begins = begin pass left unit end near standing other stands in (
+  pass-on pass end atom left m placed near standing other same stands =
+      let begins = begin pass left atom end near standing other stands in (
         begins.more,
         (
-          record { units = begins.units; around = begins.around ∙ stands.around },
-          ap (λ l. goes words variables l (here line pass) m) begins.is ∙ goes-unit words variables unit begins.more (here line pass) m
+          record { atoms = begins.atoms; around = begins.around ∙ stands.around },
+          ap (λ l. goes words variables l (here line pass) m) begins.is ∙ goes-atom words variables atom begins.more (here line pass) m
               ∙ ap (λ r. after r (λ next m'. goes words variables begins.more next m')) (same (here line pass))
-              ∙ ap (λ s. goes words variables begins.more s m) (here-on line pass end (source unit) placed.ordered (omega (arith, standing.later)) standing.written),
+              ∙ ap (λ s. goes words variables begins.more s m) (here-on line pass end (source atom) placed.ordered (omega (arith, standing.later)) standing.written),
         ),
       )
 
   -- into a reference that stays
   pub pass-keep : (pass next : Pass) (mark : ℕ) (left : Left) (m : Meter) → IsPlaced line pass → pass.at + 2 ≤ length line → opening_of (drop pass.at line) ≡ Some (Marked mark)
       → closes pass (get_or line pass.at 0) ≡ false
-      → ((units : List TextUnit) (rest : List ℕ) → up_to_mark mark (drop (pass.at + 2) line) ≡ Some (units, rest) → cut (sources (before_colon units)) ≡ (before_colon units, []) → word_named words (sources (before_colon units)) ≡ None)
+      → ((atoms : List TextAtom) (rest : List ℕ) → up_to_mark mark (drop (pass.at + 2) line) ≡ Some (atoms, rest) → cut (sources (before_colon atoms)) ≡ (before_colon atoms, []) → word_named words (sources (before_colon atoms)) ≡ None)
       → next.joined ≡ pass.joined → next.around.items ≡ pass.around.items ++ v.Kept mark ∷ [] → next.copied ≡ pass.copied → next.at ≡ pass.at + 2
       → HasLeft line pass left → ContinuesPass words variables line pass left m (Ok next) m
   pass-keep pass next mark left m placed room opens other none joined around copied at stands =
       let near : pass.at < length line = omega arith in
-      let marked = begins-marked left line pass.at mark near stands.units (ap (λ l. closes_first l (get_or line pass.at 0)) stands.around ∙ other) opens in
+      let marked = begins-marked left line pass.at mark near stands.atoms (ap (λ l. closes_first l (get_or line pass.at 0)) stands.around ∙ other) opens in
       let front = take 2 (drop pass.at line) in
-      let unit = marked_reference front marked.units mark in
+      let atom = marked_reference front marked.atoms mark in
       let begins = marked.begins in
       let two : front ≡ slice_range line pass.at (pass.at + 2) = ap (λ n. take n (drop pass.at line)) (let e : 2 ≡ (pass.at + 2) - pass.at = omega arith in e) in (
-        Within marked.units (Staying mark) begins.more,
+        Within marked.atoms (Staying mark) begins.more,
         (
           record {
-            units = (marked.rest, (ap (λ n. up_to_mark mark (drop n line)) at ∙ marked.read, begins.units));
+            atoms = (marked.rest, (ap (λ n. up_to_mark mark (drop n line)) at ∙ marked.read, begins.atoms));
             around = ap (λ l. Staying mark ∷ l) (begins.around ∙ stands.around)
                 ∙ ap (map surround_of) (sym (ap reverse around ∙ reverse-append pass.around.items (v.Kept mark ∷ [])));
           },
-          ap (λ l. goes words variables l (here line pass) m) begins.is ∙ goes-unit words variables unit begins.more (here line pass) m
-              ∙ ap (λ found. after (put_reference variables (put words variables) (here line pass) (source unit) (option_map sources (following_colon marked.units)) found m) (λ next' m'. goes words variables begins.more next' m'))
-              (none marked.units marked.rest marked.read marked.alone.name)
-              ∙ ap (λ r. after r (λ next' m'. goes words variables begins.more next' m')) (stays-marked words variables front mark marked.units (here line pass) m (opens_with (drop pass.at line) (Marked mark) opens).front marked.alone.inside)
-              ∙ ap (λ s. goes words variables (Within marked.units (Staying mark) begins.more) s m)
+          ap (λ l. goes words variables l (here line pass) m) begins.is ∙ goes-atom words variables atom begins.more (here line pass) m
+              ∙ ap (λ found. after (put_reference variables (put words variables) (here line pass) (source atom) (option_map sources (following_colon marked.atoms)) found m) (λ next' m'. goes words variables begins.more next' m'))
+              (none marked.atoms marked.rest marked.read marked.alone.name)
+              ∙ ap (λ r. after r (λ next' m'. goes words variables begins.more next' m')) (stays-marked words variables front mark marked.atoms (here line pass) m (opens_with (drop pass.at line) (Marked mark) opens).front marked.alone.inside)
+              ∙ ap (λ s. goes words variables (Within marked.atoms (Staying mark) begins.more) s m)
               (here-on line pass (pass.at + 2) front placed.ordered (omega arith) two
               ∙ ap (λ j. as_written (so_far j) (slice_range line pass.copied (pass.at + 2))) (sym joined)
               ∙ ap (λ n. as_written (so_far next.joined) (slice_range line n (pass.at + 2))) (sym copied)
@@ -207,37 +207,37 @@ module _ (words : LoopWords) (variables : Variables) (line : List ℕ) where
       ap (λ n. as_written (so_far pass.joined) (slice_range line n pass.at)) same
       ∙ ap (λ l. record (so_far pass.joined) { text = l }) (ap (λ l. string_bytes pass.joined.text ++ l) (range_none line pass.at) ∙ append-nil (string_bytes pass.joined.text))
 
-  put-end : (pass : Pass) (behind : ℕ) (left : Left) (m m' : Meter) (result : Result Pass (PureStop FaultKind)) (unit : TextUnit) (begins : BeginsWith left unit (drop behind line)) (outcome : Result (SoFar × Meter) (FaultKind × Meter))
+  put-end : (pass : Pass) (behind : ℕ) (left : Left) (m m' : Meter) (result : Result Pass (PureStop FaultKind)) (atom : TextAtom) (begins : BeginsWith left atom (drop behind line)) (outcome : Result (SoFar × Meter) (FaultKind × Meter))
       → goes words variables left (here line pass) m ≡ after outcome (λ next' m''. goes words variables begins.more next' m'')
       → GivesPurely (λ next. so_far next.joined) result m' outcome
       → IfOk result (λ next. next.around.items ≡ pass.around.items) → IfOk result (λ next. next.copied ≡ behind) → IfOk result (λ next. next.at ≡ behind)
       → HasLeft line pass left → ContinuesPass words variables line pass left m result m'
-  put-end pass behind left m m' (Ok next) unit begins outcome whole gives around copied at stands = (
+  put-end pass behind left m m' (Ok next) atom begins outcome whole gives around copied at stands = (
     begins.more,
     (
-      record { units = subst (λ n. IsLeft begins.more (drop n line)) (sym at) begins.units; around = begins.around ∙ stands.around ∙ ap (λ l. map surround_of (reverse l)) (sym around) },
+      record { atoms = subst (λ n. IsLeft begins.more (drop n line)) (sym at) begins.atoms; around = begins.around ∙ stands.around ∙ ap (λ l. map surround_of (reverse l)) (sym around) },
       whole ∙ ap (λ r. after r (λ next' m''. goes words variables begins.more next' m'')) gives ∙ ap (λ s. goes words variables begins.more s m') (sym (here-none next (copied ∙ sym at))),
     ),
   )
-  put-end pass behind left m m' (Err stop) unit begins outcome whole gives around copied at stands =
+  put-end pass behind left m m' (Err stop) atom begins outcome whole gives around copied at stands =
       StopsPurelyAt-whole stop m' _ _ (λ end stops. whole ∙ ap (λ r. after r (λ next' m''. goes words variables begins.more next' m'')) stops) gives
 
   -- a word comes in the place of a reference
-  pub pass-put : (pass : Pass) (behind : ℕ) (left : Left) (unit : TextUnit) (written name word : List ℕ) (m m' : Meter) (paid : Unit {0}) (result : Result Pass (PureStop FaultKind))
-      → unit ≡ Reference written name None → word_named words name ≡ Some word → pay m ≡ Ok (paid, m') → BeginsWith left unit (drop behind line)
+  pub pass-put : (pass : Pass) (behind : ℕ) (left : Left) (atom : TextAtom) (written name word : List ℕ) (m m' : Meter) (paid : Unit {0}) (result : Result Pass (PureStop FaultKind))
+      → atom ≡ Reference written name None → word_named words name ≡ Some word → pay m ≡ Ok (paid, m') → BeginsWith left atom (drop behind line)
       → GivesPurely (λ next. so_far next.joined) result m' (with_loop_word (here line pass) word m')
       → IfOk result (λ next. next.around.items ≡ pass.around.items) → IfOk result (λ next. next.copied ≡ behind) → IfOk result (λ next. next.at ≡ behind)
       → HasLeft line pass left → ContinuesPass words variables line pass left m result m'
-  pass-put pass behind left unit written name word m m' paid result is named pays begins gives around copied at stands =
+  pass-put pass behind left atom written name word m m' paid result is named pays begins gives around copied at stands =
       let whole : goes words variables left (here line pass) m ≡ after (with_loop_word (here line pass) word m') (λ next' m''. goes words variables begins.more next' m'') =
-      ap (λ l. goes words variables l (here line pass) m) begins.is ∙ goes-unit words variables unit begins.more (here line pass) m
+      ap (λ l. goes words variables l (here line pass) m) begins.is ∙ goes-atom words variables atom begins.more (here line pass) m
       ∙ ap (λ u. after (iteration words variables (here line pass) u m) (λ next' m''. goes words variables begins.more next' m'')) is
       ∙ ap (λ found. after (put_reference variables (put words variables) (here line pass) written None found m) (λ next' m''. goes words variables begins.more next' m'')) named
       ∙ ap (λ r. after r (λ next' m''. goes words variables begins.more next' m'')) (replaced-paid words variables (here line pass) written None word m m' paid pays) in
-      put-end pass behind left m m' result unit begins (with_loop_word (here line pass) word m') whole gives around copied at stands
+      put-end pass behind left m m' result atom begins (with_loop_word (here line pass) word m') whole gives around copied at stands
 
   -- into the modifiers of a reference that is replaced
-  pub pass-replace : (pass next : Pass) (mark behind : ℕ) (left : Left) (written name word : List ℕ) (more : List TextUnit) (rest : List ℕ) (m m' : Meter) (paid : Unit {0})
+  pub pass-replace : (pass next : Pass) (mark behind : ℕ) (left : Left) (written name word : List ℕ) (more : List TextAtom) (rest : List ℕ) (m m' : Meter) (paid : Unit {0})
       → word_named words name ≡ Some word → pay m ≡ Ok (paid, m') → cut (sources more) ≡ (more, []) → up_to_mark mark (drop behind line) ≡ Some (more, rest)
       → (begins : BeginsWith left (Reference written name (Some (sources more))) rest)
       → so_far next.joined ≡ nothing → map surround_of next.around.items ≡ map surround_of pass.around.items ++ Changing mark word (here line pass) ∷ []
@@ -246,11 +246,11 @@ module _ (words : LoopWords) (variables : Variables) (line : List ℕ) where
     Within more (Changing mark word (here line pass)) begins.more,
     (
       record {
-        units = (rest, (ap (λ n. up_to_mark mark (drop n line)) at ∙ read, begins.units));
+        atoms = (rest, (ap (λ n. up_to_mark mark (drop n line)) at ∙ read, begins.atoms));
         around = ap (λ l. Changing mark word (here line pass) ∷ l) (begins.around ∙ stands.around ∙ map-reverse pass.around.items)
             ∙ sym (reverse-append (map surround_of pass.around.items) (Changing mark word (here line pass) ∷ [])) ∙ ap reverse (sym around) ∙ sym (map-reverse next.around.items);
       },
-      ap (λ l. goes words variables l (here line pass) m) begins.is ∙ goes-unit words variables (Reference written name (Some (sources more))) begins.more (here line pass) m
+      ap (λ l. goes words variables l (here line pass) m) begins.is ∙ goes-atom words variables (Reference written name (Some (sources more))) begins.more (here line pass) m
           ∙ ap (λ found. after (put_reference variables (put words variables) (here line pass) written (Some (sources more)) found m) (λ next' m''. goes words variables begins.more next' m'')) named
           ∙ ap (λ r. after r (λ next' m''. goes words variables begins.more next' m'')) (replaced-paid words variables (here line pass) written (Some (sources more)) word m m' paid pays)
           ∙ goes-changing words variables more mark word (here line pass) begins.more m' alone
@@ -259,11 +259,11 @@ module _ (words : LoopWords) (variables : Variables) (line : List ℕ) where
   )
 
   -- a reference to a loop's variable that can't be paid for
-  pub pass-unpaid : (pass : Pass) (left : Left) (unit : TextUnit) (rest written name : List ℕ) (modifiers : Option (List ℕ)) (word : List ℕ) (m m' : Meter) (stop : PureStop FaultKind)
-      → unit ≡ Reference written name modifiers → word_named words name ≡ Some word → BeginsWith left unit rest → StopsPurelyAt stop m' (pay m) → StopsPurelyAt stop m' (goes words variables left (here line pass) m)
-  pass-unpaid pass left unit rest written name modifiers word m m' stop is named begins stops =
+  pub pass-unpaid : (pass : Pass) (left : Left) (atom : TextAtom) (rest written name : List ℕ) (modifiers : Option (List ℕ)) (word : List ℕ) (m m' : Meter) (stop : PureStop FaultKind)
+      → atom ≡ Reference written name modifiers → word_named words name ≡ Some word → BeginsWith left atom rest → StopsPurelyAt stop m' (pay m) → StopsPurelyAt stop m' (goes words variables left (here line pass) m)
+  pass-unpaid pass left atom rest written name modifiers word m m' stop is named begins stops =
       StopsPurelyAt-whole stop m' (pay m) (goes words variables left (here line pass) m)
-      (λ end fails. ap (λ l. goes words variables l (here line pass) m) begins.is ∙ goes-unit words variables unit begins.more (here line pass) m
+      (λ end fails. ap (λ l. goes words variables l (here line pass) m) begins.is ∙ goes-atom words variables atom begins.more (here line pass) m
       ∙ ap (λ u. after (iteration words variables (here line pass) u m) (λ next' m''. goes words variables begins.more next' m'')) is
       ∙ ap (λ found. after (put_reference variables (put words variables) (here line pass) written modifiers found m) (λ next' m''. goes words variables begins.more next' m'')) named
       ∙ ap (λ r. after r (λ next' m''. goes words variables begins.more next' m'')) (replaced-unpaid words variables (here line pass) written modifiers word m end fails))
@@ -272,7 +272,7 @@ module _ (words : LoopWords) (variables : Variables) (line : List ℕ) where
   -- the mark of the innermost reference is at the place
   pub record ClosesAt (pass : Pass) (left : Left) (around : Around) (outer : List Around) : Type 0 where
     pub more : Left
-    pub units : IsLeft more (drop (pass.at + 1) line)
+    pub atoms : IsLeft more (drop (pass.at + 1) line)
     pub outside : surrounds more ≡ map surround_of (reverse outer)
     pub becomes : (m : Meter) → goes words variables left (here line pass) m ≡ after (close_reference variables (surround_of around) (here line pass) m) (λ next m'. goes words variables more next m')
     pub mark : get_or line pass.at 0 ≡ mark_of (surround_of around)
@@ -284,11 +284,11 @@ module _ (words : LoopWords) (variables : Variables) (line : List ℕ) where
       let first = drop_more line pass.at 0 near in
       let over : map surround_of (reverse pass.around.items) ≡ surround_of around ∷ map surround_of (reverse outer) =
       ap (λ l. map surround_of (reverse l)) last ∙ ap (map surround_of) (reverse-append outer (around ∷ [])) in
-      let found = closes-left left b (drop (pass.at + 1) line) (subst (IsLeft left) first stands.units) (ap (λ l. closes_first l b) stands.around ∙ shut) in
+      let found = closes-left left b (drop (pass.at + 1) line) (subst (IsLeft left) first stands.atoms) (ap (λ l. closes_first l b) stands.around ∙ shut) in
       let same : found.surround ∷ surrounds found.more ≡ surround_of around ∷ map surround_of (reverse outer) = sym found.around ∙ stands.around ∙ over in
       record {
         more = found.more;
-        units = found.units;
+        atoms = found.atoms;
         outside = ap (drop 1) same;
         becomes = λ m. ap (λ l. goes words variables l (here line pass) m) found.is ∙ goes-closed words variables found.surround found.more (here line pass) m
             ∙ ap (λ s. after (close_reference variables s (here line pass) m) (λ next m'. goes words variables found.more next m')) (ap (λ l. get_or l 0 (surround_of around)) same);
@@ -303,7 +303,7 @@ module _ (words : LoopWords) (variables : Variables) (line : List ℕ) where
       ap (λ b. b ∷ []) (sym found.mark) ∙ sym (ap (take 1) (drop_more line pass.at 0 near)) ∙ ap (λ n. take n (drop pass.at line)) (let e : 1 ≡ (pass.at + 1) - pass.at = omega arith in e) in (
         found.more,
         (
-          record { units = subst (λ n. IsLeft found.more (drop n line)) (sym at) found.units; around = found.outside ∙ ap (λ l. map surround_of (reverse l)) (sym around) },
+          record { atoms = subst (λ n. IsLeft found.more (drop n line)) (sym at) found.atoms; around = found.outside ∙ ap (λ l. map surround_of (reverse l)) (sym around) },
           found.becomes m
               ∙ ap (λ s. goes words variables found.more s m)
               (here-on line pass (pass.at + 1) (mark ∷ []) placed.ordered (omega arith) one
@@ -320,7 +320,7 @@ module _ (words : LoopWords) (variables : Variables) (line : List ℕ) where
   pass-changed pass next left around outer m m' found end over copied at = (
     found.more,
     (
-      record { units = subst (λ n. IsLeft found.more (drop n line)) (sym at) found.units; around = found.outside ∙ ap (λ l. map surround_of (reverse l)) (sym over) },
+      record { atoms = subst (λ n. IsLeft found.more (drop n line)) (sym at) found.atoms; around = found.outside ∙ ap (λ l. map surround_of (reverse l)) (sym over) },
       found.becomes m ∙ ap (λ r. after r (λ next' m''. goes words variables found.more next' m'')) end ∙ ap (λ s. goes words variables found.more s m') (sym (here-none next (copied ∙ sym at))),
     ),
   )
@@ -337,25 +337,25 @@ module _ (words : LoopWords) (variables : Variables) (line : List ℕ) where
       → IfOk result (λ next. next.around.items ≡ pass.around.items) → IfOk result (λ next. next.copied ≡ end + 1) → IfOk result (λ next. next.at ≡ end + 1)
       → HasLeft line pass left → ContinuesPass words variables line pass left m result m'
   marked-put pass mark end left word text m m' paid result room opens other ends here' is named pays gives around copied at stands =
-      let marked = begins-marked left line pass.at mark (omega arith) stands.units (ap (λ l. closes_first l (get_or line pass.at 0)) stands.around ∙ other) opens in
-      let name-ends = ends.3 marked.units marked.rest marked.read in
+      let marked = begins-marked left line pass.at mark (omega arith) stands.atoms (ap (λ l. closes_first l (get_or line pass.at 0)) stands.around ∙ other) opens in
+      let name-ends = ends.3 marked.atoms marked.rest marked.read in
       let closing = name-ends.closes here' in
       let front = take 2 (drop pass.at line) in
-      pass-put pass (end + 1) left (marked_reference front marked.units mark) (front ++ sources marked.units ++ mark ∷ []) (sources (before_colon marked.units)) word m m' paid result
-      (ap (λ o. Reference (front ++ sources marked.units ++ mark ∷ []) (sources (before_colon marked.units)) (option_map sources o)) closing.0)
-      (name-word words line (pass.at + 2) mark end marked.units marked.rest text name-ends marked.alone.name is ∙ sym named) pays
-      (subst (BeginsWith left (marked_reference front marked.units mark)) closing.1 marked.begins) gives around copied at stands
+      pass-put pass (end + 1) left (marked_reference front marked.atoms mark) (front ++ sources marked.atoms ++ mark ∷ []) (sources (before_colon marked.atoms)) word m m' paid result
+      (ap (λ o. Reference (front ++ sources marked.atoms ++ mark ∷ []) (sources (before_colon marked.atoms)) (option_map sources o)) closing.0)
+      (name-word words line (pass.at + 2) mark end marked.atoms marked.rest text name-ends marked.alone.name is ∙ sym named) pays
+      (subst (BeginsWith left (marked_reference front marked.atoms mark)) closing.1 marked.begins) gives around copied at stands
 
   pub marked-unpaid : (pass : Pass) (mark end : ℕ) (left : Left) (word text : List ℕ) (m m' : Meter) (stop : PureStop FaultKind) → pass.at + 2 ≤ length line
       → opening_of (drop pass.at line) ≡ Some (Marked mark) → closes pass (get_or line pass.at 0) ≡ false → EndsName line (pass.at + 2) mark (Some end)
       → text ≡ slice_range line (pass.at + 2) end → Some word ≡ word_of words text → StopsPurelyAt stop m' (pay m)
       → HasLeft line pass left → StopsPurelyAt stop m' (goes words variables left (here line pass) m)
   marked-unpaid pass mark end left word text m m' stop room opens other ends is named stops stands =
-      let marked = begins-marked left line pass.at mark (omega arith) stands.units (ap (λ l. closes_first l (get_or line pass.at 0)) stands.around ∙ other) opens in
-      let name-ends = ends.3 marked.units marked.rest marked.read in
+      let marked = begins-marked left line pass.at mark (omega arith) stands.atoms (ap (λ l. closes_first l (get_or line pass.at 0)) stands.around ∙ other) opens in
+      let name-ends = ends.3 marked.atoms marked.rest marked.read in
       let front = take 2 (drop pass.at line) in
-      pass-unpaid pass left (marked_reference front marked.units mark) marked.rest (front ++ sources marked.units ++ mark ∷ []) (sources (before_colon marked.units)) (option_map sources (following_colon marked.units)) word m m' stop
-      refl (name-word words line (pass.at + 2) mark end marked.units marked.rest text name-ends marked.alone.name is ∙ sym named) marked.begins stops
+      pass-unpaid pass left (marked_reference front marked.atoms mark) marked.rest (front ++ sources marked.atoms ++ mark ∷ []) (sources (before_colon marked.atoms)) (option_map sources (following_colon marked.atoms)) word m m' stop
+      refl (name-word words line (pass.at + 2) mark end marked.atoms marked.rest text name-ends marked.alone.name is ∙ sym named) marked.begins stops
 
   pub marked-replace : (pass next : Pass) (mark end : ℕ) (left : Left) (word text : List ℕ) (m m' : Meter) (paid : Unit {0}) → pass.at + 2 ≤ length line
       → opening_of (drop pass.at line) ≡ Some (Marked mark) → closes pass (get_or line pass.at 0) ≡ false → EndsName line (pass.at + 2) mark (Some end) → get_or line end 0 ≢ mark
@@ -363,12 +363,12 @@ module _ (words : LoopWords) (variables : Variables) (line : List ℕ) where
       → so_far next.joined ≡ nothing → map surround_of next.around.items ≡ map surround_of pass.around.items ++ Changing mark word (here line pass) ∷ []
       → next.copied ≡ end + 1 → next.at ≡ end + 1 → HasLeft line pass left → ContinuesPass words variables line pass left m (Ok next) m'
   marked-replace pass next mark end left word text m m' paid room opens other ends colon is named pays joined around copied at stands =
-      let marked = begins-marked left line pass.at mark (omega arith) stands.units (ap (λ l. closes_first l (get_or line pass.at 0)) stands.around ∙ other) opens in
-      let name-ends = ends.3 marked.units marked.rest marked.read in
+      let marked = begins-marked left line pass.at mark (omega arith) stands.atoms (ap (λ l. closes_first l (get_or line pass.at 0)) stands.around ∙ other) opens in
+      let name-ends = ends.3 marked.atoms marked.rest marked.read in
       let on = name-ends.goes_on colon in
       let front = take 2 (drop pass.at line) in
-      pass-replace pass next mark (end + 1) left (front ++ sources marked.units ++ mark ∷ []) (sources (before_colon marked.units)) word on.0 marked.rest m m' paid
-      (name-word words line (pass.at + 2) mark end marked.units marked.rest text name-ends marked.alone.name is ∙ sym named) pays
+      pass-replace pass next mark (end + 1) left (front ++ sources marked.atoms ++ mark ∷ []) (sources (before_colon marked.atoms)) word on.0 marked.rest m m' paid
+      (name-word words line (pass.at + 2) mark end marked.atoms marked.rest text name-ends marked.alone.name is ∙ sym named) pays
       (subst (λ o. IfSome o (λ more. cut (sources more) ≡ (more, []))) on.1.0 marked.alone.modifiers) on.1.1
-      (subst (λ o. BeginsWith left (Reference (front ++ sources marked.units ++ mark ∷ []) (sources (before_colon marked.units)) (option_map sources o)) marked.rest) on.1.0 marked.begins)
+      (subst (λ o. BeginsWith left (Reference (front ++ sources marked.atoms ++ mark ∷ []) (sources (before_colon marked.atoms)) (option_map sources o)) marked.rest) on.1.0 marked.begins)
       joined around copied at stands

@@ -4,16 +4,16 @@ use Rattle.std.proofs.lemmas.List.Elements.{All-nil, All-cons, All-head, All-tai
 use Rattle.mk_base.specs.declared.faults.FaultKind.{FaultKind}
 use Rattle.mk_base.specs.Meter.{Meter, pay}
 use Rattle.mk_base.specs.Outcome.{Work, after, each, give}
-use Rattle.mk_ref.specs.Units.{TextUnit, Byte, EscapedDollar, Reference, source, sources, units_of, left_of, cut, cut_on}
+use Rattle.mk_ref.specs.Atoms.{TextAtom, Byte, EscapedDollar, Reference, source, sources, atoms_of, left_of, cut, cut_on}
 use Rattle.mk_ref.specs.Laws.{AreMarks, IsPutTogether, with_colon}
-use Rattle.mk_ref.proofs.UnitSteps.{units-text, units-together, cut-next, first-nil}
+use Rattle.mk_ref.proofs.AtomSteps.{atoms-text, atoms-together, cut-next, first-nil}
 use Rattle.mk_env.specs.Texts.{Variables}
 use Rattle.mk_env.specs.Expansion.{modified_by}
 use Rattle.mk_loop.specs.LoopWords.{LoopWords, word_named}
-use Rattle.mk_loop.specs.BodyLine.{SoFar, nothing, as_written, with_loop_word, finished, Puts, inside, closing, modified_word, put_reference, put_unit, put_by, put}
+use Rattle.mk_loop.specs.BodyLine.{SoFar, nothing, as_written, with_loop_word, finished, Puts, inside, closing, modified_word, put_reference, put_atom, put_by, put}
 
 -- what is in a reference is shorter than this
-abbrev pub HasSmallParts : ℕ → TextUnit → Type 0
+abbrev pub HasSmallParts : ℕ → TextAtom → Type 0
 HasSmallParts size (Byte b) = Unit {0}
 HasSmallParts size EscapedDollar = Unit {0}
 HasSmallParts size (Reference written name modifiers) = (length (inside written) < size) × IfSome modifiers (λ text. length text < size)
@@ -30,7 +30,7 @@ modifiers-small front name mark size (Some text) near =
 front-some : (front : List ℕ) (mark : ℕ) → AreMarks front mark → 0 < length front
 front-some front mark marks = elim marks [ inl brace ↦ subst (λ l. 0 < length l) (sym brace.0) (omega arith) | inr parenthesis ↦ subst (λ l. 0 < length l) (sym parenthesis.0) (omega arith) ]
 
-parts-small : (unit : TextUnit) (size : ℕ) → IsPutTogether unit → length (source unit) ≤ size → HasSmallParts size unit
+parts-small : (atom : TextAtom) (size : ℕ) → IsPutTogether atom → length (source atom) ≤ size → HasSmallParts size atom
 parts-small (Byte b) size together near = tt
 parts-small EscapedDollar size together near = tt
 parts-small (Reference written name modifiers) size (inl letter) near = (
@@ -45,17 +45,17 @@ parts-small (Reference written name modifiers) size (inr marked) near =
       modifiers-small marked.front name marked.mark size modifiers (subst (λ l. length l ≤ size) marked.written_as near),
     )
 
-sources-small : (units : List TextUnit) (size : ℕ) → length (sources units) ≤ size → All (λ unit. length (source unit) ≤ size) units
-sources-small [] size near = All-nil (λ unit. length (source unit) ≤ size)
-sources-small (unit ∷ units) size near =
-    All-cons (λ unit'. length (source unit') ≤ size) unit units (omega (arith, near, length-append (source unit) (sources units)))
-    (sources-small units size (omega (arith, near, length-append (source unit) (sources units))))
+sources-small : (atoms : List TextAtom) (size : ℕ) → length (sources atoms) ≤ size → All (λ atom. length (source atom) ≤ size) atoms
+sources-small [] size near = All-nil (λ atom. length (source atom) ≤ size)
+sources-small (atom ∷ atoms) size near =
+    All-cons (λ atom'. length (source atom') ≤ size) atom atoms (omega (arith, near, length-append (source atom) (sources atoms)))
+    (sources-small atoms size (omega (arith, near, length-append (source atom) (sources atoms))))
 
 -- what is in the references of a text is shorter than the text
-pub all-small : (text : List ℕ) → All (HasSmallParts (length text)) (units_of text)
+pub all-small : (text : List ℕ) → All (HasSmallParts (length text)) (atoms_of text)
 all-small text =
-    let near = sources-small (units_of text) (length text) (omega (arith, ap length (units-text text), length-append (sources (units_of text)) (left_of text))) in
-    let together = units-together text in
+    let near = sources-small (atoms_of text) (length text) (omega (arith, ap length (atoms-text text), length-append (sources (atoms_of text)) (left_of text))) in
+    let together = atoms-together text in
     λ k d lt. parts-small _ (length text) (together k d lt) (near k d lt)
 
 module _ {M F S X : Type 0} (iteration other : S → X → Work M F S) where
@@ -98,30 +98,30 @@ module _ (words : LoopWords) (variables : Variables) where
   reference-same puts other size agree written modifiers (Some word) small parts so_far m =
       paid-same puts other modifiers word so_far (changed-same puts other size agree modifiers parts word) (pay m)
 
-  unit-same : (puts other : Puts) (size : ℕ) → AgreeBelow size puts other → (unit : TextUnit) → HasSmallParts size unit
-      → (so_far : SoFar) (m : Meter) → put_unit words variables puts so_far unit m ≡ put_unit words variables other so_far unit m
-  unit-same puts other size agree (Byte b) small so_far m = refl
-  unit-same puts other size agree EscapedDollar small so_far m = refl
-  unit-same puts other size agree (Reference written name modifiers) small so_far m =
+  atom-same : (puts other : Puts) (size : ℕ) → AgreeBelow size puts other → (atom : TextAtom) → HasSmallParts size atom
+      → (so_far : SoFar) (m : Meter) → put_atom words variables puts so_far atom m ≡ put_atom words variables other so_far atom m
+  atom-same puts other size agree (Byte b) small so_far m = refl
+  atom-same puts other size agree EscapedDollar small so_far m = refl
+  atom-same puts other size agree (Reference written name modifiers) small so_far m =
       reference-same puts other size agree written modifiers (word_named words name) small.0 small.1 so_far m
 
-  units-same : (puts other : Puts) (text : List ℕ) → AgreeBelow (length text) puts other → (so_far : SoFar) (m : Meter)
-      → each (put_unit words variables puts) so_far (units_of text) m ≡ each (put_unit words variables other) so_far (units_of text) m
-  units-same puts other text agree so_far m =
-      each-same (put_unit words variables puts) (put_unit words variables other) (units_of text)
-      (λ k d lt. unit-same puts other (length text) agree _ (all-small text k d lt)) so_far m
+  atoms-same : (puts other : Puts) (text : List ℕ) → AgreeBelow (length text) puts other → (so_far : SoFar) (m : Meter)
+      → each (put_atom words variables puts) so_far (atoms_of text) m ≡ each (put_atom words variables other) so_far (atoms_of text) m
+  atoms-same puts other text agree so_far m =
+      each-same (put_atom words variables puts) (put_atom words variables other) (atoms_of text)
+      (λ k d lt. atom-same puts other (length text) agree _ (all-small text k d lt)) so_far m
 
-  no-units : units_of [] ≡ []
-  no-units = ap (λ x. x.0) (cut-next [] ∙ ap (cut_on cut []) first-nil)
+  no-atoms : atoms_of [] ≡ []
+  no-atoms = ap (λ x. x.0) (cut-next [] ∙ ap (cut_on cut []) first-nil)
 
-  by-suc : (levels : ℕ) (so_far : SoFar) (text : List ℕ) (m : Meter) → put_by words variables (suc levels) so_far text m ≡ each (put_unit words variables (put_by words variables levels)) so_far (units_of text) m
+  by-suc : (levels : ℕ) (so_far : SoFar) (text : List ℕ) (m : Meter) → put_by words variables (suc levels) so_far text m ≡ each (put_atom words variables (put_by words variables levels)) so_far (atoms_of text) m
   unfolding put_by
   by-suc levels so_far text m = refl
 
   by-nothing : (levels : ℕ) (so_far : SoFar) (m : Meter) → put_by words variables levels so_far [] m ≡ Ok (so_far, m)
   unfolding put_by each
   by-nothing zero so_far m = refl
-  by-nothing (suc levels) so_far m = ap (λ units. each (put_unit words variables (put_by words variables levels)) so_far units m) no-units
+  by-nothing (suc levels) so_far m = ap (λ atoms. each (put_atom words variables (put_by words variables levels)) so_far atoms m) no-atoms
 
   -- room for more references than bytes says nothing
   by-same : (levels other : ℕ) (text : List ℕ) → length text ≤ levels → length text ≤ other → (so_far : SoFar) (m : Meter)
@@ -132,18 +132,18 @@ module _ (words : LoopWords) (variables : Variables) where
   by-same (suc levels) zero (b ∷ text) low high so_far m = absurd (omega arith)
   by-same (suc levels) (suc other) text low high so_far m =
       by-suc levels so_far text m
-      ∙ units-same (put_by words variables levels) (put_by words variables other) text (λ so_far' text' m' near. by-same levels other text' (omega arith) (omega arith) so_far' m') so_far m
+      ∙ atoms-same (put_by words variables levels) (put_by words variables other) text (λ so_far' text' m' near. by-same levels other text' (omega arith) (omega arith) so_far' m') so_far m
       ∙ sym (by-suc other so_far text m)
 
   put-by : (levels : ℕ) (so_far : SoFar) (text : List ℕ) (m : Meter) → length text ≤ levels → put_by words variables levels so_far text m ≡ put words variables so_far text m
   unfolding put
   put-by levels so_far text m near = by-same levels (length text) text near (omega arith) so_far m
 
-  -- words are put into a text unit by unit
-  pub put-units : (so_far : SoFar) (text : List ℕ) (m : Meter) → put words variables so_far text m ≡ each (put_unit words variables (put words variables)) so_far (units_of text) m
-  put-units so_far text m =
+  -- words are put into a text atom by atom
+  pub put-atoms : (so_far : SoFar) (text : List ℕ) (m : Meter) → put words variables so_far text m ≡ each (put_atom words variables (put words variables)) so_far (atoms_of text) m
+  put-atoms so_far text m =
       sym (put-by (suc (length text)) so_far text m (omega arith)) ∙ by-suc (length text) so_far text m
-      ∙ units-same (put_by words variables (length text)) (put words variables) text (λ so_far' text' m' near. put-by (length text) so_far' text' m' (omega arith)) so_far m
+      ∙ atoms-same (put_by words variables (length text)) (put words variables) text (λ so_far' text' m' near. put-by (length text) so_far' text' m' (omega arith)) so_far m
 
   -- into nothing none are put
   pub put-nothing : (so_far : SoFar) (m : Meter) → put words variables so_far [] m ≡ Ok (so_far, m)

@@ -10,7 +10,7 @@ use Rattle.mk_base.specs.declared.faults.FaultKind.{FaultKind}
 use Rattle.mk_base.specs.declared.faults.FaultKind.TheVariants as kinds
 use Rattle.mk_base.specs.Meter.{Meter, pay}
 use Rattle.mk_base.specs.Outcome.{Work, give, fail, each, ◌>>=◌}
-use Rattle.mk_ref.specs.Units.{TextUnit, Byte, EscapedDollar, Reference, units_of, left_of}
+use Rattle.mk_ref.specs.Atoms.{TextAtom, Byte, EscapedDollar, Reference, atoms_of, left_of}
 use Rattle.mk_env.specs.Texts.{Variables}
 use Rattle.mk_env.specs.Expansion.{bounded, modified_by}
 use Rattle.mk_loop.specs.LoopWords.{LoopWords, word_named}
@@ -70,23 +70,23 @@ put_reference variables puts so_far written modifiers None = stays puts so_far w
 put_reference variables puts so_far written modifiers (Some word) =
     pay >>= λ _. modified_word variables puts modifiers word >>= λ found. with_loop_word so_far found
 
--- a unit of a text with the words put in
-abbrev pub put_unit : LoopWords → Variables → Puts → SoFar → TextUnit → Work Meter FaultKind SoFar
-put_unit words variables puts so_far (Byte b) = give (as_written so_far (b ∷ []))
-put_unit words variables puts so_far EscapedDollar = give (as_written so_far (dollar ∷ dollar ∷ []))
-put_unit words variables puts so_far (Reference written name modifiers) =
+-- an atom of a text with the words put in
+abbrev pub put_atom : LoopWords → Variables → Puts → SoFar → TextAtom → Work Meter FaultKind SoFar
+put_atom words variables puts so_far (Byte b) = give (as_written so_far (b ∷ []))
+put_atom words variables puts so_far EscapedDollar = give (as_written so_far (dollar ∷ dollar ∷ []))
+put_atom words variables puts so_far (Reference written name modifiers) =
     put_reference variables puts so_far written modifiers (word_named words name)
 
--- A text with the words put in, unit by unit. The number bounds how many references may be nested.
+-- A text with the words put in, atom by atom. The number bounds how many references may be nested.
 unfoldable pub put_by : LoopWords → Variables → ℕ → Puts
 put_by words variables zero so_far text = give so_far
-put_by words variables (suc levels) so_far text = each (put_unit words variables (put_by words variables levels)) so_far (units_of text)
+put_by words variables (suc levels) so_far text = each (put_atom words variables (put_by words variables levels)) so_far (atoms_of text)
 
 -- the same with no bound: a text can't have more references nested than it has bytes
 unfoldable pub put : LoopWords → Variables → Puts
 put words variables so_far text = put_by words variables (length text) so_far text
 
--- A line with the words put in, if this is left of it after its units. If anything is left, a reference
+-- A line with the words put in, if this is left of it after its atoms. If anything is left, a reference
 -- doesn't end. That is a fault before any is replaced.
 abbrev pub where_closed : LoopWords → Variables → List ℕ → List ℕ → Work Meter FaultKind (List ℕ)
 where_closed words variables line [] = put words variables nothing line >>= finished

@@ -2,7 +2,7 @@
 use Rattle.std.specs.Prelude.{ℕ, Bool, true, false, if◌then◌else◌, List, [], ◌∷◌, Option, Some, None}
 use Rattle.std.specs.List.{list_any}
 use Rattle.std.specs.Str.{bytes_eq}
-use Rattle.mk_ref.specs.Units.{TextUnit, Byte, EscapedDollar, Reference, units_of}
+use Rattle.mk_ref.specs.Atoms.{TextAtom, Byte, EscapedDollar, Reference, atoms_of}
 
 -- the variables of the loops around a line, each with its word in this iteration; those of the innermost
 -- loop come first
@@ -14,15 +14,15 @@ abbrev pub word_of : LoopWords → List ℕ → Option (List ℕ)
 word_of [] name = None
 word_of ((variable, word) ∷ words) name = if bytes_eq name variable then Some word else word_of words name
 
--- a reference among the units of a text
-abbrev pub is_reference : TextUnit → Bool
+-- a reference among the atoms of a text
+abbrev pub is_reference : TextAtom → Bool
 is_reference (Byte b) = false
 is_reference EscapedDollar = false
 is_reference (Reference written name modifiers) = true
 
 -- whether there is a reference in a text
 abbrev pub has_whole_reference : List ℕ → Bool
-has_whole_reference text = list_any is_reference (units_of text)
+has_whole_reference text = list_any is_reference (atoms_of text)
 
 -- The word of the variable that a reference with this name names. The name counts as it is written, and a
 -- name with a reference in it isn't the name of a loop's variable.

@@ -10,11 +10,11 @@ use Rattle.mk_base.specs.declared.stops.PureStop.{PureStop}
 use Rattle.mk_base.specs.Meter.{Meter}
 use Rattle.mk_base.specs.Outcome.{Work, give, each, ◌>>=◌}
 use Rattle.mk_base.specs.Stops.{StopsPurelyAt}
-use Rattle.mk_ref.specs.Units.{TextUnit, sources, before_colon, following_colon, up_to_mark, cut}
+use Rattle.mk_ref.specs.Atoms.{TextAtom, sources, before_colon, following_colon, up_to_mark, cut}
 use Rattle.mk_env.specs.Texts.{Variables}
 use Rattle.mk_env.specs.Expansion.{modified_by}
 use Rattle.mk_loop.specs.LoopWords.{LoopWords, is_reference}
-use Rattle.mk_loop.specs.BodyLine.{SoFar, nothing, as_written, with_loop_word, finished, put_unit, put}
+use Rattle.mk_loop.specs.BodyLine.{SoFar, nothing, as_written, with_loop_word, finished, put_atom, put}
 use Rattle.mk_loop.specs.Joinings.{so_far}
 use Rattle.mk_loop.specs.Scopes.{words_in}
 use Rattle.mk_loop.specs.declared.pass.Around.{Around}
@@ -33,21 +33,21 @@ abbrev pub mark_of : Surround → ℕ
 mark_of (Staying mark) = mark
 mark_of (Changing mark word front) = mark
 
--- what is left of a line: the rest of its units; or the rest of the units inside a reference, and then what
+-- what is left of a line: the rest of its atoms; or the rest of the atoms inside a reference, and then what
 -- is left after its mark
 pub data Left : Type 0 where
-  Outermost : List TextUnit → Left
-  Within : List TextUnit → Surround → Left → Left
+  Outermost : List TextAtom → Left
+  Within : List TextAtom → Surround → Left → Left
 
 -- the references that the place is in, the innermost first
 abbrev pub surrounds : Left → List Surround
-surrounds (Outermost units) = []
-surrounds (Within units surround left) = surround ∷ surrounds left
+surrounds (Outermost atoms) = []
+surrounds (Within atoms surround left) = surround ∷ surrounds left
 
--- these units are what is left of a text
+-- these atoms are what is left of a text
 abbrev pub IsLeft : Left → List ℕ → Type 0
-IsLeft (Outermost units) text = cut text ≡ (units, [])
-IsLeft (Within units surround left) text = (rest : List ℕ) × ((up_to_mark (mark_of surround) text ≡ Some (units, rest)) × IsLeft left rest)
+IsLeft (Outermost atoms) text = cut text ≡ (atoms, [])
+IsLeft (Within atoms surround left) text = (rest : List ℕ) × ((up_to_mark (mark_of surround) text ≡ Some (atoms, rest)) × IsLeft left rest)
 
 -- What the mark that closes a reference does. If the reference stays, the mark is joined as it is written.
 -- If the reference is replaced, its word is put in, as its modifiers change it.
@@ -58,9 +58,9 @@ close_reference variables (Changing mark word front) here =
 
 -- what becomes of a line if this is left of it, given what is joined so far of the innermost text
 abbrev pub goes : LoopWords → Variables → Left → SoFar → Work Meter FaultKind (List ℕ)
-goes words variables (Outermost units) here m = (each (put_unit words variables (put words variables)) here units >>= finished) m
-goes words variables (Within units surround left) here m =
-    (each (put_unit words variables (put words variables)) here units >>= close_reference variables surround
+goes words variables (Outermost atoms) here m = (each (put_atom words variables (put words variables)) here atoms >>= finished) m
+goes words variables (Within atoms surround left) here m =
+    (each (put_atom words variables (put words variables)) here atoms >>= close_reference variables surround
     >>= goes words variables left) m
 
 -- a reference that a pass is in
@@ -106,7 +106,7 @@ pub record IsPlaced (line : List ℕ) (pass : Pass) : Type 0 where
   pub kept : pass.copied ≡ 0 → All IsKeptReference pass.around.items
 
 -- What is copied was paid for: from the first meter on nothing is spent if nothing is copied, and at least one
--- unit if something is.
+-- atom if something is.
 abbrev pub IsPaid : Meter → ℕ → Meter → Type 0
 IsPaid from copied m = (copied ≡ 0 → m.spent ≡ from.spent) × (copied ≢ 0 → from.spent < m.spent)
 
@@ -116,7 +116,7 @@ PaysFor pass m next m' = (from : Meter) → IsPaid from pass.copied m → IsPaid
 
 -- this is left of the line at the place of a pass
 pub record HasLeft (line : List ℕ) (pass : Pass) (left : Left) : Type 0 where
-  pub units : IsLeft left (drop pass.at line)
+  pub atoms : IsLeft left (drop pass.at line)
   pub around : surrounds left ≡ map surround_of (reverse pass.around.items)
 
 -- A step of a pass, if this is left. What becomes of the line is the same from the new place on, or
@@ -135,21 +135,21 @@ StepsOn body pass m result m' =
     → ContinuesPass (words_in body.loops.now) body.variables.now body.line.now pass left m result m'
 
 -- The name of a reference ends at this index, and there is no reference in the name. The reference has these
--- units inside, the first of them at `start`, and this rest follows its mark.
-pub record NameEnds (text : List ℕ) (start mark end : ℕ) (units : List TextUnit) (rest : List ℕ) : Type 0 where
-  pub plain : list_any is_reference (before_colon units) ≡ false
-  pub name : sources (before_colon units) ≡ slice_range text start end
-  pub closes : slice_index text end ≡ mark → (following_colon units ≡ None) × (rest ≡ drop (end + 1) text)
+-- atoms inside, the first of them at `start`, and this rest follows its mark.
+pub record NameEnds (text : List ℕ) (start mark end : ℕ) (atoms : List TextAtom) (rest : List ℕ) : Type 0 where
+  pub plain : list_any is_reference (before_colon atoms) ≡ false
+  pub name : sources (before_colon atoms) ≡ slice_range text start end
+  pub closes : slice_index text end ≡ mark → (following_colon atoms ≡ None) × (rest ≡ drop (end + 1) text)
   pub goes_on : slice_index text end ≢ mark
-      → (more : List TextUnit)
-      × ((following_colon units ≡ Some more) × (up_to_mark mark (drop (end + 1) text) ≡ Some (more, rest)))
+      → (more : List TextAtom)
+      × ((following_colon atoms ≡ Some more) × (up_to_mark mark (drop (end + 1) text) ≡ Some (more, rest)))
 
 -- where the name of a reference ends; None if there is a reference in the name
 abbrev pub EndsName : List ℕ → ℕ → ℕ → Option ℕ → Type 0
 EndsName text start mark None =
-    (units : List TextUnit) (rest : List ℕ) → up_to_mark mark (drop start text) ≡ Some (units, rest)
-    → list_any is_reference (before_colon units) ≡ true
+    (atoms : List TextAtom) (rest : List ℕ) → up_to_mark mark (drop start text) ≡ Some (atoms, rest)
+    → list_any is_reference (before_colon atoms) ≡ true
 EndsName text start mark (Some end) =
     (start ≤ end) × (end < length text) × (slice_index text end < 128)
-    × ((units : List TextUnit) (rest : List ℕ) → up_to_mark mark (drop start text) ≡ Some (units, rest)
-    → NameEnds text start mark end units rest)
+    × ((atoms : List TextAtom) (rest : List ℕ) → up_to_mark mark (drop start text) ≡ Some (atoms, rest)
+    → NameEnds text start mark end atoms rest)

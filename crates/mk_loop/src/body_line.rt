@@ -1,7 +1,7 @@
 //! A line of a loop's body with the words of its iteration put in.
 ghost use Rattle.std.specs.Prelude.{◌≡◌, ◌↔◌, [], None, IfOk, IfErr};
 ghost use Rattle.mk_base.specs.Meter.{IsLater};
-ghost use Rattle.mk_ref.specs.Units.{left_of};
+ghost use Rattle.mk_ref.specs.Atoms.{left_of};
 ghost use Rattle.mk_env.specs.Refusals.{IsUncut};
 ghost use Rattle.mk_loop.specs.Passes.{PutsWords};
 

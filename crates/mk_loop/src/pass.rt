@@ -3,7 +3,7 @@ ghost use Rattle.std.specs.Prelude.{◌≡◌, ◌↔◌, ◌≤◌, ◌<◌, �
 ghost use Rattle.std.specs.Prelude.{slice_index, Some, None, All, IfOk};
 ghost use Rattle.mk_base.specs.Meter.{IsLater};
 ghost use Rattle.mk_ref.specs.declared.opening.Opening.TheVariants as openings;
-ghost use Rattle.mk_ref.specs.Units.{opening_of};
+ghost use Rattle.mk_ref.specs.Atoms.{opening_of};
 ghost use Rattle.mk_loop.specs.BodyLine as body_line;
 ghost use Rattle.mk_loop.specs.Joinings.{so_far};
 ghost use Rattle.mk_loop.specs.Places.{mark_of, surround_of, closes};
@@ -95,7 +95,7 @@ impl Pass {
         self.at
     }
 
-    /// The pass after one unit or mark of the line of a loop's body, or inside the reference that begins at
+    /// The pass after one atom or mark of the line of a loop's body, or inside the reference that begins at
     /// its place.
     pub(crate) fn step(
         self,

@@ -3,7 +3,7 @@ use Rattle.std.proofs.Common.{◌≡◌, ℕ, ◌<◌, List, [], ◌∷◌, leng
 use Rattle.std.specs.List.{flat_map}
 use Rattle.mk_ref.specs.declared.pieces_of_text.PiecesFault.{PiecesFault}
 use Rattle.mk_ref.specs.declared.pieces_of_text.PiecesFault.TheVariants as faults
-use Rattle.mk_ref.specs.Units.{units_of, left_of}
+use Rattle.mk_ref.specs.Atoms.{atoms_of, left_of}
 use Rattle.mk_ref.specs.Pieces.{pieces_of}
 use Rattle.mk_ref.specs.Places.{IsFaultOf}
 use Rattle.mk_mods.specs.Marks.{TextMark, marks_of, marks_if_whole, piece_marks}
@@ -15,5 +15,5 @@ where_left (b ∷ left) marks some = refl
 
 pub marks-unread : (text : List ℕ) (fault : PiecesFault) → IsFaultOf text fault → IsUnread (marks_of text) (unread_by fault)
 unfolding marks_of
-marks-unread text (faults.Unclosed at) is = where_left (left_of text) (flat_map piece_marks (pieces_of (units_of text))) (omega (arith, is.inside, ap length is.left, length-drop at text))
+marks-unread text (faults.Unclosed at) is = where_left (left_of text) (flat_map piece_marks (pieces_of (atoms_of text))) (omega (arith, is.inside, ap length is.left, length-drop at text))
 marks-unread text (faults.Memory _) is = tt

@@ -4,7 +4,7 @@ use Rattle.std.specs.Char.{encode_utf8}
 use Rattle.std.specs.Str.{chars}
 use Rattle.std.specs.List.{flat_map}
 use Rattle.general_facts.specs.Ascii.{dollar}
-use Rattle.mk_ref.specs.Units.{units_of, left_of}
+use Rattle.mk_ref.specs.Atoms.{atoms_of, left_of}
 use Rattle.mk_ref.specs.Pieces.{TextPiece, LiteralPiece, EscapedDollarPiece, ReferencePiece, pieces_of}
 
 -- a character outside references, a pair `$$`, or a reference as it is written
@@ -18,7 +18,7 @@ piece_marks (LiteralPiece bytes) = map Char (chars bytes)
 piece_marks EscapedDollarPiece = EscapedDollar ∷ []
 piece_marks (ReferencePiece written name modifiers) = Written written ∷ []
 
--- if this is left of a text after its units, the text has its marks only if nothing is left, that is, if
+-- if this is left of a text after its atoms, the text has its marks only if nothing is left, that is, if
 -- each reference ends
 abbrev pub marks_if_whole : List ℕ → List TextMark → Option (List TextMark)
 marks_if_whole [] marks = Some marks
@@ -26,7 +26,7 @@ marks_if_whole (b ∷ left) marks = None
 
 -- the marks of a text; None if a reference doesn't end
 unfoldable pub marks_of : List ℕ → Option (List TextMark)
-marks_of text = marks_if_whole (left_of text) (flat_map piece_marks (pieces_of (units_of text)))
+marks_of text = marks_if_whole (left_of text) (flat_map piece_marks (pieces_of (atoms_of text)))
 
 -- whether a mark is this character
 abbrev pub is_char : ℕ → TextMark → Bool

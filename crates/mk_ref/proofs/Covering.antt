@@ -1,8 +1,8 @@
 -- What is outside references is in the place where it was.
 use Rattle.std.proofs.Common.{◌≡◌, ◌≢◌, ◌⊎◌, ℕ, zero, suc, ◌+◌, ◌<◌, List, [], ◌∷◌, ◌++◌, length, take, drop, map, get_or, refl, sym, ap, subst, ◌∙◌, inl, inr, append-nil}
 use Rattle.std.specs.List.{flat_map}
-use Rattle.mk_ref.specs.Units.{TextUnit, Byte, EscapedDollar, Reference, source, sources, units_of, left_of}
-use Rattle.mk_ref.proofs.UnitSteps.{units-text}
+use Rattle.mk_ref.specs.Atoms.{TextAtom, Byte, EscapedDollar, Reference, source, sources, atoms_of, left_of}
+use Rattle.mk_ref.proofs.AtomSteps.{atoms-text}
 use Rattle.mk_ref.specs.Pieces.{TextPiece, LiteralPiece, EscapedDollarPiece, ReferencePiece, with_byte, pieces_of}
 use Rattle.std.proofs.lemmas.List.{drop_more, drop-map}
 use Rattle.mk_ref.specs.declared.pieces_of_text.Piece.{Piece}
@@ -27,20 +27,20 @@ covers-append [] (c ∷ text) more rest front back = absurd front
 covers-append (b ∷ plain) [] more rest front back = absurd front
 covers-append (b ∷ plain) (c ∷ text) more rest front back = (front.0, covers-append plain text more rest front.1 back)
 
-covers-unit : (unit : TextUnit) → Covers (covered unit) (source unit)
-covers-unit (Byte b) = (inr refl, tt)
-covers-unit EscapedDollar = (inl refl, (inl refl, tt))
-covers-unit (Reference written name modifiers) = covers-dollars written
+covers-atom : (atom : TextAtom) → Covers (covered atom) (source atom)
+covers-atom (Byte b) = (inr refl, tt)
+covers-atom EscapedDollar = (inl refl, (inl refl, tt))
+covers-atom (Reference written name modifiers) = covers-dollars written
 
-covers-units : (units : List TextUnit) → Covers (flat_map covered units) (sources units)
-covers-units [] = tt
-covers-units (unit ∷ units) = covers-append (covered unit) (source unit) (flat_map covered units) (sources units) (covers-unit unit) (covers-units units)
+covers-atoms : (atoms : List TextAtom) → Covers (flat_map covered atoms) (sources atoms)
+covers-atoms [] = tt
+covers-atoms (atom ∷ atoms) = covers-append (covered atom) (source atom) (flat_map covered atoms) (sources atoms) (covers-atom atom) (covers-atoms atoms)
 
 pub covers-outside : (text : List ℕ) → Covers (outside text) text
 unfolding outside
 covers-outside text =
-    subst (Covers (flat_map covered (units_of text) ++ dollars (left_of text))) (units-text text)
-    (covers-append (flat_map covered (units_of text)) (sources (units_of text)) (dollars (left_of text)) (left_of text) (covers-units (units_of text)) (covers-dollars (left_of text)))
+    subst (Covers (flat_map covered (atoms_of text) ++ dollars (left_of text))) (atoms-text text)
+    (covers-append (flat_map covered (atoms_of text)) (sources (atoms_of text)) (dollars (left_of text)) (left_of text) (covers-atoms (atoms_of text)) (covers-dollars (left_of text)))
 
 covers-length : (plain text : List ℕ) → Covers plain text → length plain ≡ length text
 covers-length [] [] is = refl
@@ -62,34 +62,34 @@ length-outside text = covers-length (outside text) text (covers-outside text)
 pub outside-at : (text : List ℕ) (at : ℕ) → get_or (outside text) at 0 ≢ 36 → get_or (outside text) at 0 ≡ get_or text at 0
 outside-at text at other = covers-at (outside text) text at (covers-outside text) other
 
--- of pieces as of their units
+-- of pieces as of their atoms
 covered-with_byte : (b : ℕ) (pieces : List TextPiece) → flat_map covered_piece (with_byte b pieces) ≡ b ∷ flat_map covered_piece pieces
 covered-with_byte b [] = refl
 covered-with_byte b (LiteralPiece bytes ∷ pieces) = refl
 covered-with_byte b (EscapedDollarPiece ∷ pieces) = refl
 covered-with_byte b (ReferencePiece written name modifiers ∷ pieces) = refl
 
-pub covered-pieces : (units : List TextUnit) → flat_map covered_piece (pieces_of units) ≡ flat_map covered units
+pub covered-pieces : (atoms : List TextAtom) → flat_map covered_piece (pieces_of atoms) ≡ flat_map covered atoms
 covered-pieces [] = refl
-covered-pieces (Byte b ∷ units) = covered-with_byte b (pieces_of units) ∙ ap (λ l. b ∷ l) (covered-pieces units)
-covered-pieces (EscapedDollar ∷ units) = ap (λ l. 36 ∷ 36 ∷ l) (covered-pieces units)
-covered-pieces (Reference written name modifiers ∷ units) = ap (λ l. dollars written ++ l) (covered-pieces units)
+covered-pieces (Byte b ∷ atoms) = covered-with_byte b (pieces_of atoms) ∙ ap (λ l. b ∷ l) (covered-pieces atoms)
+covered-pieces (EscapedDollar ∷ atoms) = ap (λ l. 36 ∷ 36 ∷ l) (covered-pieces atoms)
+covered-pieces (Reference written name modifiers ∷ atoms) = ap (λ l. dollars written ++ l) (covered-pieces atoms)
 
 -- a text whose references all end, from its pieces
-pub outside-whole : (text : List ℕ) (found : List TextPiece) → found ≡ pieces_of (units_of text) → left_of text ≡ [] → flat_map covered_piece found ≡ outside text
+pub outside-whole : (text : List ℕ) (found : List TextPiece) → found ≡ pieces_of (atoms_of text) → left_of text ≡ [] → flat_map covered_piece found ≡ outside text
 unfolding outside
 outside-whole text found is whole =
-    ap (flat_map covered_piece) is ∙ covered-pieces (units_of text) ∙ sym (append-nil (flat_map covered (units_of text)))
-    ∙ ap (λ l. flat_map covered (units_of text) ++ dollars l) (sym whole)
+    ap (flat_map covered_piece) is ∙ covered-pieces (atoms_of text) ∙ sym (append-nil (flat_map covered (atoms_of text)))
+    ∙ ap (λ l. flat_map covered (atoms_of text) ++ dollars l) (sym whole)
 
 -- a text in which a reference begins that doesn't end, from the pieces before that
-pub outside-unclosed : (text : List ℕ) (at : ℕ) (found : List TextPiece) → IsUnclosedAt text at → found ≡ pieces_of (units_of (take at text))
+pub outside-unclosed : (text : List ℕ) (at : ℕ) (found : List TextPiece) → IsUnclosedAt text at → found ≡ pieces_of (atoms_of (take at text))
     → flat_map covered_piece found ++ dollars (drop at text) ≡ outside text
 unfolding outside
 outside-unclosed text at found unclosed is =
     ap (λ l. flat_map covered_piece l ++ dollars (drop at text)) is
-    ∙ ap (λ l. l ++ dollars (drop at text)) (covered-pieces (units_of (take at text)) ∙ ap (λ x. flat_map covered x.0) (cut-front text at unclosed))
-    ∙ ap (λ l. flat_map covered (units_of text) ++ dollars l) (sym unclosed.left)
+    ∙ ap (λ l. l ++ dollars (drop at text)) (covered-pieces (atoms_of (take at text)) ∙ ap (λ x. flat_map covered x.0) (cut-front text at unclosed))
+    ∙ ap (λ l. flat_map covered (atoms_of text) ++ dollars l) (sym unclosed.left)
 
 -- the next piece
 pub covered-next : (text : List ℕ) (found : List Piece) (at : ℕ) (other : Piece) → at < length found

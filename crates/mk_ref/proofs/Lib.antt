@@ -1,10 +1,10 @@
-pub mod UnitSteps
+pub mod AtomSteps
 pub mod ScanSteps
 pub mod InsideSteps
 pub mod PieceSteps
 pub mod PiecesSoFar
 pub mod PartSteps
-pub mod PieceUnits
+pub mod PieceAtoms
 pub mod PlainTexts
 pub mod Alone
 pub mod Covering

@@ -5,23 +5,23 @@ use Rattle.std.proofs.lemmas.Bool.Decides.{eqb_tells}
 use Rattle.std.specs.Char.{is_ascii_alphabetic}
 use Rattle.mk_ref.specs.declared.opening.Opening.{Opening}
 use Rattle.mk_ref.specs.declared.opening.Opening.TheVariants.{Doubled, Letter, Marked}
-use Rattle.mk_ref.specs.Units.{TextUnit, Byte, Reference, source, sources, is_colon, before_colon, following_colon, opening_after, opening_of, marked_reference, marked_first, unit_by, unit_before, with_more, read_up_to, up_to_mark, first_unit, cut_on, cut, left_of}
+use Rattle.mk_ref.specs.Atoms.{TextAtom, Byte, Reference, source, sources, is_colon, before_colon, following_colon, opening_after, opening_of, marked_reference, marked_first, atom_by, atom_before, with_more, read_up_to, up_to_mark, first_atom, cut_on, cut, left_of}
 use Rattle.mk_ref.specs.Laws.{AreMarks, HasWholeParts, AreCutAlone}
-use Rattle.mk_ref.proofs.UnitSteps.{Reader, IsUnitOf, opens_with, unit_whole, read_faithful, up_to_faithful, read_any, up_to-nil, up_to-cons, first_whole, first-nil, second_of, cut-next, cut_all}
+use Rattle.mk_ref.proofs.AtomSteps.{Reader, IsAtomOf, opens_with, atom_whole, read_faithful, up_to_faithful, read_any, up_to-nil, up_to-cons, first_whole, first-nil, second_of, cut-next, cut_all}
 
--- what may follow a unit in place of what followed it: nothing, or what begins with the same byte
+-- what may follow an atom in place of what followed it: nothing, or what begins with the same byte
 abbrev pub StartsLike : List ℕ → List ℕ → Type 0
 StartsLike rest [] = Unit {0}
 StartsLike [] (c ∷ other) = ⊥
 StartsLike (b ∷ rest) (c ∷ other) = b ≡ c
 
--- a reader that reads the same units wherever they come before the mark
+-- a reader that reads the same atoms wherever they come before the mark
 abbrev pub IsLocal : Reader → Type 0
 IsLocal up_to = (mark : ℕ) (text : List ℕ) → IfSome (up_to mark text) (λ x. (other : List ℕ) → up_to mark (sources x.0 ++ mark ∷ other) ≡ Some (x.0, other))
 
--- a unit that is read the same before another rest
-abbrev pub StaysFirst : Reader → TextUnit → List ℕ → Type 0
-StaysFirst up_to unit rest = (other : List ℕ) → StartsLike rest other → unit_by up_to (opening_of (source unit ++ other)) (source unit ++ other) ≡ Some (unit, other)
+-- an atom that is read the same before another rest
+abbrev pub StaysFirst : Reader → TextAtom → List ℕ → Type 0
+StaysFirst up_to atom rest = (other : List ℕ) → StartsLike rest other → atom_by up_to (opening_of (source atom ++ other)) (source atom ++ other) ≡ Some (atom, other)
 
 plain_stays : (b : ℕ) (rest other : List ℕ) → opening_of (b ∷ rest) ≡ None → StartsLike rest other → opening_of (b ∷ other) ≡ None
 plain_stays b rest [] is like = elim (eqb_tells b 36) [ inl dollar ↦ rw dollar.0 refl | inr no_dollar ↦ rw no_dollar.0 refl ]
@@ -42,47 +42,47 @@ letter_opens letter other is =
     ]
 
 pub letter_stays : (up_to : Reader) (letter : ℕ) (other written name : List ℕ) → is_ascii_alphabetic letter ≡ true → written ≡ 36 ∷ letter ∷ [] → name ≡ letter ∷ []
-    → unit_by up_to (opening_of (written ++ other)) (written ++ other) ≡ Some (Reference written name None, other)
+    → atom_by up_to (opening_of (written ++ other)) (written ++ other) ≡ Some (Reference written name None, other)
 letter_stays up_to letter other written name is front second =
-    ap (λ l. unit_by up_to (opening_of (l ++ other)) (l ++ other)) front
-    ∙ ap (λ o. unit_by up_to o (36 ∷ letter ∷ other)) (letter_opens letter other is)
+    ap (λ l. atom_by up_to (opening_of (l ++ other)) (l ++ other)) front
+    ∙ ap (λ o. atom_by up_to o (36 ∷ letter ∷ other)) (letter_opens letter other is)
     ∙ ap (λ l. Some (Reference l (letter ∷ []) None, other)) (sym front) ∙ ap (λ l. Some (Reference written l None, other)) (sym second)
 
-marked_by : (up_to : Reader) (b mark : ℕ) (inside : List TextUnit) (other : List ℕ) → opening_after (b ∷ sources inside ++ mark ∷ other) ≡ Some (Marked mark)
+marked_by : (up_to : Reader) (b mark : ℕ) (inside : List TextAtom) (other : List ℕ) → opening_after (b ∷ sources inside ++ mark ∷ other) ≡ Some (Marked mark)
     → up_to mark (sources inside ++ mark ∷ other) ≡ Some (inside, other)
-    → unit_by up_to (opening_after (b ∷ sources inside ++ mark ∷ other)) (36 ∷ b ∷ sources inside ++ mark ∷ other) ≡ Some (marked_reference (36 ∷ b ∷ []) inside mark, other)
+    → atom_by up_to (opening_after (b ∷ sources inside ++ mark ∷ other)) (36 ∷ b ∷ sources inside ++ mark ∷ other) ≡ Some (marked_reference (36 ∷ b ∷ []) inside mark, other)
 marked_by up_to b mark inside other is h =
-    ap (λ o. unit_by up_to o (36 ∷ b ∷ sources inside ++ mark ∷ other)) is ∙ ap (option_map (marked_first (36 ∷ b ∷ []) mark)) h
+    ap (λ o. atom_by up_to o (36 ∷ b ∷ sources inside ++ mark ∷ other)) is ∙ ap (option_map (marked_first (36 ∷ b ∷ []) mark)) h
 
-pub marked_stays : (up_to : Reader) (front : List ℕ) (mark : ℕ) (inside : List TextUnit) (other : List ℕ) → AreMarks front mark
+pub marked_stays : (up_to : Reader) (front : List ℕ) (mark : ℕ) (inside : List TextAtom) (other : List ℕ) → AreMarks front mark
     → up_to mark (sources inside ++ mark ∷ other) ≡ Some (inside, other)
-    → unit_by up_to (opening_of (source (marked_reference front inside mark) ++ other)) (source (marked_reference front inside mark) ++ other)
+    → atom_by up_to (opening_of (source (marked_reference front inside mark) ++ other)) (source (marked_reference front inside mark) ++ other)
     ≡ Some (marked_reference front inside mark, other)
 marked_stays up_to front mark inside other marks h =
     let P : ℕ → List ℕ → Type 0 = λ m f. up_to m (sources inside ++ m ∷ other) ≡ Some (inside, other)
-    → unit_by up_to (opening_of (f ++ (sources inside ++ m ∷ other))) (f ++ (sources inside ++ m ∷ other)) ≡ Some (marked_reference f inside m, other) in
+    → atom_by up_to (opening_of (f ++ (sources inside ++ m ∷ other))) (f ++ (sources inside ++ m ∷ other)) ≡ Some (marked_reference f inside m, other) in
     let read : P mark front = elim marks [
       | inl brace ↦ subst₂ P (sym brace.1) (sym brace.0) (marked_by up_to 123 125 inside other refl)
       | inr parenthesis ↦ subst₂ P (sym parenthesis.1) (sym parenthesis.0) (marked_by up_to 40 41 inside other refl)
     ] in
-    ap (λ l. unit_by up_to (opening_of l) l) (append_assoc (front ++ sources inside) (mark ∷ []) other ∙ append_assoc front (sources inside) (mark ∷ other)) ∙ read h
+    ap (λ l. atom_by up_to (opening_of l) l) (append_assoc (front ++ sources inside) (mark ∷ []) other ∙ append_assoc front (sources inside) (mark ∷ other)) ∙ read h
 
-marked_unit_stays : (up_to : Reader) (front : List ℕ) (mark : ℕ) (read : Option (List TextUnit × List ℕ)) → AreMarks front mark
+marked_atom_stays : (up_to : Reader) (front : List ℕ) (mark : ℕ) (read : Option (List TextAtom × List ℕ)) → AreMarks front mark
     → IfSome read (λ x. (other : List ℕ) → up_to mark (sources x.0 ++ mark ∷ other) ≡ Some (x.0, other))
     → IfSome (option_map (marked_first front mark) read) (λ x. StaysFirst up_to x.0 x.1)
-marked_unit_stays up_to front mark None marks h = tt
-marked_unit_stays up_to front mark (Some x) marks h = λ other like. marked_stays up_to front mark x.0 other marks (h other)
+marked_atom_stays up_to front mark None marks h = tt
+marked_atom_stays up_to front mark (Some x) marks h = λ other like. marked_stays up_to front mark x.0 other marks (h other)
 
-unit_stays : (up_to : Reader) → IsLocal up_to → (opening : Option Opening) (text : List ℕ) → opening_of text ≡ opening
-    → IfSome (unit_by up_to opening text) (λ x. StaysFirst up_to x.0 x.1)
-unit_stays up_to h None [] is = tt
-unit_stays up_to h None (b ∷ rest) is = λ other like. ap (λ o. unit_by up_to o (b ∷ other)) (plain_stays b rest other is like)
-unit_stays up_to h (Some Doubled) text is = λ other like. refl
-unit_stays up_to h (Some Letter) text is =
+atom_stays : (up_to : Reader) → IsLocal up_to → (opening : Option Opening) (text : List ℕ) → opening_of text ≡ opening
+    → IfSome (atom_by up_to opening text) (λ x. StaysFirst up_to x.0 x.1)
+atom_stays up_to h None [] is = tt
+atom_stays up_to h None (b ∷ rest) is = λ other like. ap (λ o. atom_by up_to o (b ∷ other)) (plain_stays b rest other is like)
+atom_stays up_to h (Some Doubled) text is = λ other like. refl
+atom_stays up_to h (Some Letter) text is =
     let front = (opens_with text Letter is).front in
     λ other like. letter_stays up_to front.0 other (take 2 text) (take 1 (drop 1 text)) front.1 front.2 (second_of text front.0 front.2)
-unit_stays up_to h (Some (Marked mark)) text is =
-    marked_unit_stays up_to (take 2 text) mark (up_to mark (drop 2 text)) (opens_with text (Marked mark) is).front (h mark (drop 2 text))
+atom_stays up_to h (Some (Marked mark)) text is =
+    marked_atom_stays up_to (take 2 text) mark (up_to mark (drop 2 text)) (opens_with text (Marked mark) is).front (h mark (drop 2 text))
 
 -- two texts that begin with the same bytes and a mark
 starts_same : (front : List ℕ) (mark : ℕ) (rest other : List ℕ) → StartsLike (front ++ mark ∷ rest) (front ++ mark ∷ other)
@@ -93,30 +93,30 @@ head_same : (front rest other : List ℕ) → 0 < length front → get_or (front
 head_same [] rest other some = absurd (omega arith)
 head_same (b ∷ front) rest other some = refl
 
--- one more unit, if the mark doesn't come first
-read_step : (bound mark : ℕ) (text : List ℕ) (unit : TextUnit) (rest : List ℕ) → nat_eq (get_or text 0 0) mark ≡ false → 0 < length text
-    → unit_by (read_up_to bound) (opening_of text) text ≡ Some (unit, rest) → read_up_to (suc bound) mark text ≡ option_map (unit_before unit) (read_up_to bound mark rest)
+-- one more atom, if the mark doesn't come first
+read_step : (bound mark : ℕ) (text : List ℕ) (atom : TextAtom) (rest : List ℕ) → nat_eq (get_or text 0 0) mark ≡ false → 0 < length text
+    → atom_by (read_up_to bound) (opening_of text) text ≡ Some (atom, rest) → read_up_to (suc bound) mark text ≡ option_map (atom_before atom) (read_up_to bound mark rest)
 unfolding read_up_to
-read_step bound mark [] unit rest other some is = absurd (omega arith)
-read_step bound mark (b ∷ text) unit rest other some is =
-    ap (λ t. cond t (Some ([], text)) (with_more (read_up_to bound mark) (unit_by (read_up_to bound) (opening_of (b ∷ text)) (b ∷ text)))) other
+read_step bound mark [] atom rest other some is = absurd (omega arith)
+read_step bound mark (b ∷ text) atom rest other some is =
+    ap (λ t. cond t (Some ([], text)) (with_more (read_up_to bound mark) (atom_by (read_up_to bound) (opening_of (b ∷ text)) (b ∷ text)))) other
     ∙ ap (with_more (read_up_to bound mark)) is
 
-more_stays : (bound mark b : ℕ) (rest : List ℕ) (unit : TextUnit) (behind : List ℕ) (read : Option (List TextUnit × List ℕ)) → nat_eq b mark ≡ false
-    → IsUnitOf (b ∷ rest) unit behind → StaysFirst (read_up_to bound) unit behind
+more_stays : (bound mark b : ℕ) (rest : List ℕ) (atom : TextAtom) (behind : List ℕ) (read : Option (List TextAtom × List ℕ)) → nat_eq b mark ≡ false
+    → IsAtomOf (b ∷ rest) atom behind → StaysFirst (read_up_to bound) atom behind
     → IfSome read (λ x. sources x.0 ++ mark ∷ x.1 ≡ behind) → IfSome read (λ x. (other : List ℕ) → read_up_to bound mark (sources x.0 ++ mark ∷ other) ≡ Some (x.0, other))
-    → IfSome (option_map (unit_before unit) read) (λ x. (other : List ℕ) → read_up_to (suc bound) mark (sources x.0 ++ mark ∷ other) ≡ Some (x.0, other))
-more_stays bound mark b rest unit behind None no_mark is stays whole h = tt
-more_stays bound mark b rest unit behind (Some x) no_mark is stays whole h = λ other.
+    → IfSome (option_map (atom_before atom) read) (λ x. (other : List ℕ) → read_up_to (suc bound) mark (sources x.0 ++ mark ∷ other) ≡ Some (x.0, other))
+more_stays bound mark b rest atom behind None no_mark is stays whole h = tt
+more_stays bound mark b rest atom behind (Some x) no_mark is stays whole h = λ other.
     let after : List ℕ = sources x.0 ++ mark ∷ other in
-    let first : get_or (source unit ++ after) 0 0 ≡ b = head_same (source unit) after behind is.some ∙ ap (λ l. get_or l 0 0) is.whole in
-    ap (read_up_to (suc bound) mark) (append_assoc (source unit) (sources x.0) (mark ∷ other))
-    ∙ read_step bound mark (source unit ++ after) unit after (ap (λ n. nat_eq n mark) first ∙ no_mark) (omega (arith, is.some, length-append (source unit) after))
+    let first : get_or (source atom ++ after) 0 0 ≡ b = head_same (source atom) after behind is.some ∙ ap (λ l. get_or l 0 0) is.whole in
+    ap (read_up_to (suc bound) mark) (append_assoc (source atom) (sources x.0) (mark ∷ other))
+    ∙ read_step bound mark (source atom ++ after) atom after (ap (λ n. nat_eq n mark) first ∙ no_mark) (omega (arith, is.some, length-append (source atom) after))
     (stays after (subst (λ l. StartsLike l after) whole (starts_same (sources x.0) mark x.1 other)))
-    ∙ ap (option_map (unit_before unit)) (h other)
+    ∙ ap (option_map (atom_before atom)) (h other)
 
-first_stays : (bound mark b : ℕ) (rest : List ℕ) (first : Option (TextUnit × List ℕ)) → nat_eq b mark ≡ false
-    → IfSome first (λ x. IsUnitOf (b ∷ rest) x.0 x.1) → IfSome first (λ x. StaysFirst (read_up_to bound) x.0 x.1) → IsLocal (read_up_to bound)
+first_stays : (bound mark b : ℕ) (rest : List ℕ) (first : Option (TextAtom × List ℕ)) → nat_eq b mark ≡ false
+    → IfSome first (λ x. IsAtomOf (b ∷ rest) x.0 x.1) → IfSome first (λ x. StaysFirst (read_up_to bound) x.0 x.1) → IsLocal (read_up_to bound)
     → IfSome (with_more (read_up_to bound mark) first) (λ x. (other : List ℕ) → read_up_to (suc bound) mark (sources x.0 ++ mark ∷ other) ≡ Some (x.0, other))
 first_stays bound mark b rest None no_mark is stays h = tt
 first_stays bound mark b rest (Some x) no_mark is stays h =
@@ -125,7 +125,7 @@ first_stays bound mark b rest (Some x) no_mark is stays h =
 at_mark : (bound mark : ℕ) (other : List ℕ) → read_up_to (suc bound) mark (mark ∷ other) ≡ Some ([], other)
 unfolding read_up_to
 at_mark bound mark other =
-    ap (λ t. cond t (Some ([], other)) (with_more (read_up_to bound mark) (unit_by (read_up_to bound) (opening_of (mark ∷ other)) (mark ∷ other)))) (eq-eqb mark mark refl)
+    ap (λ t. cond t (Some ([], other)) (with_more (read_up_to bound mark) (atom_by (read_up_to bound) (opening_of (mark ∷ other)) (mark ∷ other)))) (eq-eqb mark mark refl)
 
 read_local : (bound : ℕ) → IsLocal (read_up_to bound)
 unfolding read_up_to
@@ -134,52 +134,52 @@ read_local (suc bound) mark [] = tt
 read_local (suc bound) mark (b ∷ rest) =
     elim (eqb_tells b mark) [
       | inl same ↦ rw same.0 (at_mark bound mark)
-      | inr other ↦ rw other.0 (first_stays bound mark b rest (unit_by (read_up_to bound) (opening_of (b ∷ rest)) (b ∷ rest)) other.0
-          (unit_whole (read_up_to bound) (read_faithful bound) (opening_of (b ∷ rest)) (b ∷ rest) refl)
-          (unit_stays (read_up_to bound) (read_local bound) (opening_of (b ∷ rest)) (b ∷ rest) refl) (read_local bound))
+      | inr other ↦ rw other.0 (first_stays bound mark b rest (atom_by (read_up_to bound) (opening_of (b ∷ rest)) (b ∷ rest)) other.0
+          (atom_whole (read_up_to bound) (read_faithful bound) (opening_of (b ∷ rest)) (b ∷ rest) refl)
+          (atom_stays (read_up_to bound) (read_local bound) (opening_of (b ∷ rest)) (b ∷ rest) refl) (read_local bound))
     ]
 
-local_by : (mark : ℕ) (text : List ℕ) (read : Option (List TextUnit × List ℕ)) → up_to_mark mark text ≡ read
+local_by : (mark : ℕ) (text : List ℕ) (read : Option (List TextAtom × List ℕ)) → up_to_mark mark text ≡ read
     → IfSome read (λ x. (other : List ℕ) → up_to_mark mark (sources x.0 ++ mark ∷ other) ≡ Some (x.0, other))
 local_by mark text None is = tt
 local_by mark text (Some x) is = λ other.
     let after : List ℕ = sources x.0 ++ mark ∷ other in
     let bound : ℕ = length text + length after in
-    let P : Option (List TextUnit × List ℕ) → Type 0 = λ o. IfSome o (λ y. (more : List ℕ) → read_up_to bound mark (sources y.0 ++ mark ∷ more) ≡ Some (y.0, more)) in
+    let P : Option (List TextAtom × List ℕ) → Type 0 = λ o. IfSome o (λ y. (more : List ℕ) → read_up_to bound mark (sources y.0 ++ mark ∷ more) ≡ Some (y.0, more)) in
     sym (read_any bound mark after (omega arith)) ∙ subst P (read_any bound mark text (omega arith) ∙ is) (read_local bound mark text) other
 
 pub up_to_local : IsLocal up_to_mark
 up_to_local mark text = local_by mark text (up_to_mark mark text) refl
 
--- a unit is read the same before another rest
-pub first_same : (text : List ℕ) (unit : TextUnit) (rest other : List ℕ) → first_unit text ≡ Some (unit, rest) → StartsLike rest other
-    → first_unit (source unit ++ other) ≡ Some (unit, other)
-unfolding first_unit
-first_same text unit rest other is like =
-    subst (λ o. IfSome o (λ x. StaysFirst up_to_mark x.0 x.1)) is (unit_stays up_to_mark up_to_local (opening_of text) text refl) other like
+-- an atom is read the same before another rest
+pub first_same : (text : List ℕ) (atom : TextAtom) (rest other : List ℕ) → first_atom text ≡ Some (atom, rest) → StartsLike rest other
+    → first_atom (source atom ++ other) ≡ Some (atom, other)
+unfolding first_atom
+first_same text atom rest other is like =
+    subst (λ o. IfSome o (λ x. StaysFirst up_to_mark x.0 x.1)) is (atom_stays up_to_mark up_to_local (opening_of text) text refl) other like
 
--- units that are read one after another before a rest
-abbrev pub ReadBefore : List TextUnit → List ℕ → Type 0
+-- atoms that are read one after another before a rest
+abbrev pub ReadBefore : List TextAtom → List ℕ → Type 0
 ReadBefore [] rest = Unit {0}
-ReadBefore (unit ∷ units) rest = (first_unit (source unit ++ (sources units ++ rest)) ≡ Some (unit, sources units ++ rest)) × ReadBefore units rest
+ReadBefore (atom ∷ atoms) rest = (first_atom (source atom ++ (sources atoms ++ rest)) ≡ Some (atom, sources atoms ++ rest)) × ReadBefore atoms rest
 
-unit_size : (text : List ℕ) (unit : TextUnit) (rest : List ℕ) → first_unit text ≡ Some (unit, rest) → IsUnitOf text unit rest
-unit_size text unit rest is = subst (λ o. IfSome o (λ x. IsUnitOf text x.0 x.1)) is (first_whole text)
+atom_size : (text : List ℕ) (atom : TextAtom) (rest : List ℕ) → first_atom text ≡ Some (atom, rest) → IsAtomOf text atom rest
+atom_size text atom rest is = subst (λ o. IfSome o (λ x. IsAtomOf text x.0 x.1)) is (first_whole text)
 
-before_more : (mark : ℕ) (text : List ℕ) (unit : TextUnit) (rest : List ℕ) (read : Option (List TextUnit × List ℕ)) → first_unit text ≡ Some (unit, rest)
+before_more : (mark : ℕ) (text : List ℕ) (atom : TextAtom) (rest : List ℕ) (read : Option (List TextAtom × List ℕ)) → first_atom text ≡ Some (atom, rest)
     → IfSome read (λ x. sources x.0 ++ mark ∷ x.1 ≡ rest) → IfSome read (λ x. ReadBefore x.0 (mark ∷ x.1))
-    → IfSome (option_map (unit_before unit) read) (λ x. ReadBefore x.0 (mark ∷ x.1))
-before_more mark text unit rest None is whole h = tt
-before_more mark text unit rest (Some x) is whole h =
-    let size = unit_size text unit rest is in
-    (ap first_unit (ap (λ l. source unit ++ l) whole ∙ size.whole) ∙ is ∙ ap (λ l. Some (unit, l)) (sym whole), h)
+    → IfSome (option_map (atom_before atom) read) (λ x. ReadBefore x.0 (mark ∷ x.1))
+before_more mark text atom rest None is whole h = tt
+before_more mark text atom rest (Some x) is whole h =
+    let size = atom_size text atom rest is in
+    (ap first_atom (ap (λ l. source atom ++ l) whole ∙ size.whole) ∙ is ∙ ap (λ l. Some (atom, l)) (sym whole), h)
 
-before_first : (mark : ℕ) (text : List ℕ) (first : Option (TextUnit × List ℕ)) → first_unit text ≡ first
+before_first : (mark : ℕ) (text : List ℕ) (first : Option (TextAtom × List ℕ)) → first_atom text ≡ first
     → ((rest : List ℕ) → length rest < length text → IfSome (up_to_mark mark rest) (λ x. ReadBefore x.0 (mark ∷ x.1)))
     → IfSome (with_more (up_to_mark mark) first) (λ x. ReadBefore x.0 (mark ∷ x.1))
 before_first mark text None is h = tt
 before_first mark text (Some x) is h =
-    let size = unit_size text x.0 x.1 is in
+    let size = atom_size text x.0 x.1 is in
     before_more mark text x.0 x.1 (up_to_mark mark x.1) is (up_to_faithful mark x.1) (h x.1 (omega (arith, size.some, ap length size.whole, length-append (source x.0) x.1)))
 
 read_before : (bound mark : ℕ) (text : List ℕ) → length text ≤ bound → IfSome (up_to_mark mark text) (λ x. ReadBefore x.0 (mark ∷ x.1))
@@ -189,83 +189,83 @@ read_before (suc bound) mark (b ∷ rest) low =
     rw (up_to-cons mark b rest)
     (elim (eqb_tells b mark) [
       | inl same ↦ rw same.0 tt
-      | inr other ↦ rw other.0 (before_first mark (b ∷ rest) (first_unit (b ∷ rest)) refl (λ text near. read_before bound mark text (omega arith)))
+      | inr other ↦ rw other.0 (before_first mark (b ∷ rest) (first_atom (b ∷ rest)) refl (λ text near. read_before bound mark text (omega arith)))
     ])
 
 like_source : (front back rest other : List ℕ) → 0 < length front → StartsLike ((front ++ back) ++ rest) ((front ++ other) ++ [])
 like_source [] back rest other some = absurd (omega arith)
 like_source (b ∷ front) back rest other some = refl
 
-like_front : (units more : List TextUnit) (rest : List ℕ) → ReadBefore (units ++ more) rest → StartsLike (sources (units ++ more) ++ rest) (sources units ++ [])
+like_front : (atoms more : List TextAtom) (rest : List ℕ) → ReadBefore (atoms ++ more) rest → StartsLike (sources (atoms ++ more) ++ rest) (sources atoms ++ [])
 like_front [] more rest h = tt
-like_front (unit ∷ units) more rest h =
-    let size = unit_size (source unit ++ (sources (units ++ more) ++ rest)) unit (sources (units ++ more) ++ rest) h.0 in
-    like_source (source unit) (sources (units ++ more)) rest (sources units) size.some
+like_front (atom ∷ atoms) more rest h =
+    let size = atom_size (source atom ++ (sources (atoms ++ more) ++ rest)) atom (sources (atoms ++ more) ++ rest) h.0 in
+    like_source (source atom) (sources (atoms ++ more)) rest (sources atoms) size.some
 
--- the first of the units, alone
-read_front : (units more : List TextUnit) (rest : List ℕ) → ReadBefore (units ++ more) rest → ReadBefore units []
+-- the first of the atoms, alone
+read_front : (atoms more : List TextAtom) (rest : List ℕ) → ReadBefore (atoms ++ more) rest → ReadBefore atoms []
 read_front [] more rest h = tt
-read_front (unit ∷ units) more rest h = (
-  first_same (source unit ++ (sources (units ++ more) ++ rest)) unit (sources (units ++ more) ++ rest) (sources units ++ []) h.0 (like_front units more rest h.1),
-  read_front units more rest h.1,
+read_front (atom ∷ atoms) more rest h = (
+  first_same (source atom ++ (sources (atoms ++ more) ++ rest)) atom (sources (atoms ++ more) ++ rest) (sources atoms ++ []) h.0 (like_front atoms more rest h.1),
+  read_front atoms more rest h.1,
 )
 
--- units that are read alone leave nothing
-alone_whole : (units : List TextUnit) → ReadBefore units [] → left_of (sources units) ≡ []
+-- atoms that are read alone leave nothing
+alone_whole : (atoms : List TextAtom) → ReadBefore atoms [] → left_of (sources atoms) ≡ []
 alone_whole [] h = ap (λ x. x.1) (cut-next [] ∙ ap (cut_on cut []) first-nil)
-alone_whole (unit ∷ units) h =
-    let first : first_unit (source unit ++ sources units) ≡ Some (unit, sources units) =
-    subst (λ l. first_unit (source unit ++ l) ≡ Some (unit, l)) (append-nil (sources units)) h.0 in
-    ap (λ x. x.1) (cut-next (source unit ++ sources units) ∙ ap (cut_on cut (source unit ++ sources units)) first) ∙ alone_whole units h.1
+alone_whole (atom ∷ atoms) h =
+    let first : first_atom (source atom ++ sources atoms) ≡ Some (atom, sources atoms) =
+    subst (λ l. first_atom (source atom ++ l) ≡ Some (atom, l)) (append-nil (sources atoms)) h.0 in
+    ap (λ x. x.1) (cut-next (source atom ++ sources atoms) ∙ ap (cut_on cut (source atom ++ sources atoms)) first) ∙ alone_whole atoms h.1
 
--- units that are read alone are those that their text is cut into
-alone_cut : (units : List TextUnit) → ReadBefore units [] → cut (sources units) ≡ (units, [])
+-- atoms that are read alone are those that their text is cut into
+alone_cut : (atoms : List TextAtom) → ReadBefore atoms [] → cut (sources atoms) ≡ (atoms, [])
 alone_cut [] h = cut-next [] ∙ ap (cut_on cut []) first-nil
-alone_cut (unit ∷ units) h =
-    let first : first_unit (source unit ++ sources units) ≡ Some (unit, sources units) =
-    subst (λ l. first_unit (source unit ++ l) ≡ Some (unit, l)) (append-nil (sources units)) h.0 in
-    cut-next (source unit ++ sources units) ∙ ap (cut_on cut (source unit ++ sources units)) first ∙ ap (unit_before unit) (alone_cut units h.1)
+alone_cut (atom ∷ atoms) h =
+    let first : first_atom (source atom ++ sources atoms) ≡ Some (atom, sources atoms) =
+    subst (λ l. first_atom (source atom ++ l) ≡ Some (atom, l)) (append-nil (sources atoms)) h.0 in
+    cut-next (source atom ++ sources atoms) ∙ ap (cut_on cut (source atom ++ sources atoms)) first ∙ ap (atom_before atom) (alone_cut atoms h.1)
 
-front_by : (test : Bool) (unit : TextUnit) (units : List TextUnit) → (more : List TextUnit) × (units ≡ before_colon units ++ more)
-    → (more : List TextUnit) × (unit ∷ units ≡ cond test [] (unit ∷ before_colon units) ++ more)
-front_by true unit units h = (unit ∷ units, refl)
-front_by false unit units h = (h.0, ap (λ l. unit ∷ l) h.1)
+front_by : (test : Bool) (atom : TextAtom) (atoms : List TextAtom) → (more : List TextAtom) × (atoms ≡ before_colon atoms ++ more)
+    → (more : List TextAtom) × (atom ∷ atoms ≡ cond test [] (atom ∷ before_colon atoms) ++ more)
+front_by true atom atoms h = (atom ∷ atoms, refl)
+front_by false atom atoms h = (h.0, ap (λ l. atom ∷ l) h.1)
 
-front_of : (units : List TextUnit) → (more : List TextUnit) × (units ≡ before_colon units ++ more)
+front_of : (atoms : List TextAtom) → (more : List TextAtom) × (atoms ≡ before_colon atoms ++ more)
 front_of [] = ([], refl)
-front_of (unit ∷ units) = front_by (is_colon unit) unit units (front_of units)
+front_of (atom ∷ atoms) = front_by (is_colon atom) atom atoms (front_of atoms)
 
-after_by : (test : Bool) (units : List TextUnit) (rest : List ℕ) → ReadBefore units rest → IfSome (following_colon units) (λ found. ReadBefore found rest)
-    → IfSome (cond test (Some units) (following_colon units)) (λ found. ReadBefore found rest)
-after_by true units rest h more = h
-after_by false units rest h more = more
+after_by : (test : Bool) (atoms : List TextAtom) (rest : List ℕ) → ReadBefore atoms rest → IfSome (following_colon atoms) (λ found. ReadBefore found rest)
+    → IfSome (cond test (Some atoms) (following_colon atoms)) (λ found. ReadBefore found rest)
+after_by true atoms rest h more = h
+after_by false atoms rest h more = more
 
-after_read : (units : List TextUnit) (rest : List ℕ) → ReadBefore units rest → IfSome (following_colon units) (λ found. ReadBefore found rest)
+after_read : (atoms : List TextAtom) (rest : List ℕ) → ReadBefore atoms rest → IfSome (following_colon atoms) (λ found. ReadBefore found rest)
 after_read [] rest h = tt
-after_read (unit ∷ units) rest h = after_by (is_colon unit) units rest h.1 (after_read units rest h.1)
+after_read (atom ∷ atoms) rest h = after_by (is_colon atom) atoms rest h.1 (after_read atoms rest h.1)
 
-name_whole : (units : List TextUnit) (rest : List ℕ) → ReadBefore units rest → left_of (sources (before_colon units)) ≡ []
-name_whole units rest h =
-    let front = front_of units in
-    alone_whole (before_colon units) (read_front (before_colon units) front.0 rest (subst (λ l. ReadBefore l rest) front.1 h))
+name_whole : (atoms : List TextAtom) (rest : List ℕ) → ReadBefore atoms rest → left_of (sources (before_colon atoms)) ≡ []
+name_whole atoms rest h =
+    let front = front_of atoms in
+    alone_whole (before_colon atoms) (read_front (before_colon atoms) front.0 rest (subst (λ l. ReadBefore l rest) front.1 h))
 
-modifiers_whole : (rest : List ℕ) (found : Option (List TextUnit)) → IfSome found (λ units. ReadBefore units rest) → IfSome (option_map sources found) (λ text. left_of text ≡ [])
+modifiers_whole : (rest : List ℕ) (found : Option (List TextAtom)) → IfSome found (λ atoms. ReadBefore atoms rest) → IfSome (option_map sources found) (λ text. left_of text ≡ [])
 modifiers_whole rest None h = tt
-modifiers_whole rest (Some units) h = alone_whole units (read_front units [] rest (subst (λ l. ReadBefore l rest) (sym (append-nil units)) h))
+modifiers_whole rest (Some atoms) h = alone_whole atoms (read_front atoms [] rest (subst (λ l. ReadBefore l rest) (sym (append-nil atoms)) h))
 
-first_letter : (letter : ℕ) → first_unit (letter ∷ []) ≡ Some (Byte letter, [])
-unfolding first_unit
+first_letter : (letter : ℕ) → first_atom (letter ∷ []) ≡ Some (Byte letter, [])
+unfolding first_atom
 first_letter letter = elim (eqb_tells letter 36) [ inl dollar ↦ rw dollar.0 refl | inr other ↦ rw other.0 refl ]
 
 letter_whole : (letter : ℕ) → left_of (letter ∷ []) ≡ []
 letter_whole letter = alone_whole (Byte letter ∷ []) (first_letter letter, tt)
 
-parts_marked : (front : List ℕ) (mark : ℕ) (read : Option (List TextUnit × List ℕ)) → IfSome read (λ x. ReadBefore x.0 (mark ∷ x.1))
+parts_marked : (front : List ℕ) (mark : ℕ) (read : Option (List TextAtom × List ℕ)) → IfSome read (λ x. ReadBefore x.0 (mark ∷ x.1))
     → IfSome (option_map (marked_first front mark) read) (λ x. HasWholeParts x.0)
 parts_marked front mark None h = tt
 parts_marked front mark (Some x) h = (name_whole x.0 (mark ∷ x.1) h, modifiers_whole (mark ∷ x.1) (following_colon x.0) (after_read x.0 (mark ∷ x.1) h))
 
-parts_whole : (opening : Option Opening) (text : List ℕ) → opening_of text ≡ opening → IfSome (unit_by up_to_mark opening text) (λ x. HasWholeParts x.0)
+parts_whole : (opening : Option Opening) (text : List ℕ) → opening_of text ≡ opening → IfSome (atom_by up_to_mark opening text) (λ x. HasWholeParts x.0)
 parts_whole None [] is = tt
 parts_whole None (b ∷ rest) is = tt
 parts_whole (Some Doubled) text is = tt
@@ -274,30 +274,30 @@ parts_whole (Some Letter) text is =
     (ap left_of (second_of text front.0 front.2) ∙ letter_whole front.0, tt)
 parts_whole (Some (Marked mark)) text is = parts_marked (take 2 text) mark (up_to_mark mark (drop 2 text)) (read_before (length (drop 2 text)) mark (drop 2 text) (omega arith))
 
-first_parts : (text : List ℕ) → IfSome (first_unit text) (λ x. HasWholeParts x.0)
-unfolding first_unit
+first_parts : (text : List ℕ) → IfSome (first_atom text) (λ x. HasWholeParts x.0)
+unfolding first_atom
 first_parts text = parts_whole (opening_of text) text refl
 
-pub units-whole : (text : List ℕ) → All HasWholeParts (cut text).0
-units-whole text = cut_all HasWholeParts first_parts text
+pub atoms-whole : (text : List ℕ) → All HasWholeParts (cut text).0
+atoms-whole text = cut_all HasWholeParts first_parts text
 
-read_all : (units : List TextUnit) (rest : List ℕ) → ReadBefore units rest → ReadBefore units []
-read_all units rest h = read_front units [] rest (subst (λ l. ReadBefore l rest) (sym (append-nil units)) h)
+read_all : (atoms : List TextAtom) (rest : List ℕ) → ReadBefore atoms rest → ReadBefore atoms []
+read_all atoms rest h = read_front atoms [] rest (subst (λ l. ReadBefore l rest) (sym (append-nil atoms)) h)
 
-cut_modifiers : (rest : List ℕ) (found : Option (List TextUnit)) → IfSome found (λ units. ReadBefore units rest) → IfSome found (λ units. cut (sources units) ≡ (units, []))
+cut_modifiers : (rest : List ℕ) (found : Option (List TextAtom)) → IfSome found (λ atoms. ReadBefore atoms rest) → IfSome found (λ atoms. cut (sources atoms) ≡ (atoms, []))
 cut_modifiers rest None h = tt
-cut_modifiers rest (Some units) h = alone_cut units (read_all units rest h)
+cut_modifiers rest (Some atoms) h = alone_cut atoms (read_all atoms rest h)
 
-cut_inside : (rest : List ℕ) (units : List TextUnit) → ReadBefore units rest → AreCutAlone units
-cut_inside rest units h =
-    let front = front_of units in
+cut_inside : (rest : List ℕ) (atoms : List TextAtom) → ReadBefore atoms rest → AreCutAlone atoms
+cut_inside rest atoms h =
+    let front = front_of atoms in
     record {
-      inside = alone_cut units (read_all units rest h);
-      name = alone_cut (before_colon units) (read_front (before_colon units) front.0 rest (subst (λ l. ReadBefore l rest) front.1 h));
-      modifiers = cut_modifiers rest (following_colon units) (after_read units rest h);
+      inside = alone_cut atoms (read_all atoms rest h);
+      name = alone_cut (before_colon atoms) (read_front (before_colon atoms) front.0 rest (subst (λ l. ReadBefore l rest) front.1 h));
+      modifiers = cut_modifiers rest (following_colon atoms) (after_read atoms rest h);
     }
 
-cut_read : (mark : ℕ) (read : Option (List TextUnit × List ℕ)) → IfSome read (λ x. ReadBefore x.0 (mark ∷ x.1)) → IfSome read (λ x. AreCutAlone x.0)
+cut_read : (mark : ℕ) (read : Option (List TextAtom × List ℕ)) → IfSome read (λ x. ReadBefore x.0 (mark ∷ x.1)) → IfSome read (λ x. AreCutAlone x.0)
 cut_read mark None h = tt
 cut_read mark (Some x) h = cut_inside (mark ∷ x.1) x.0 h
 

@@ -8,12 +8,12 @@ use Rattle.mk_ref.specs.declared.opening.Opening.{Opening}
 use Rattle.mk_ref.specs.declared.opening.Opening.TheVariants.{Doubled, Letter, Marked}
 use Rattle.mk_ref.specs.declared.ends.Inside.{Inside}
 use Rattle.mk_ref.specs.declared.pieces_of_text.Piece.TheVariants as v
-use Rattle.mk_ref.specs.Units.{TextUnit, EscapedDollar, Reference, source, sources, before_colon, opening_of, marked_reference, marked_first, up_to_mark, first_unit}
+use Rattle.mk_ref.specs.Atoms.{TextAtom, EscapedDollar, Reference, source, sources, before_colon, opening_of, marked_reference, marked_first, up_to_mark, first_atom}
 use Rattle.mk_ref.specs.Ends.{IsInside}
 use Rattle.mk_ref.specs.Pieces.{ReferencePiece}
 use Rattle.mk_ref.specs.Places.{IsReferenceIn, IsMarkedPlaced}
 use Rattle.mk_ref.specs.Firsts.{reference_at, IsPieceAt}
-use Rattle.mk_ref.proofs.UnitSteps.{IsFront, Opens, opens_with}
+use Rattle.mk_ref.proofs.AtomSteps.{IsFront, Opens, opens_with}
 use Rattle.mk_ref.proofs.ScanSteps.{first-opening, first-marked}
 use Rattle.mk_ref.proofs.InsideSteps.{written_as}
 
@@ -62,7 +62,7 @@ pub piece_escaped_dollar : (text : List ℕ) (at : ℕ) → IsUtf8 text → at +
 piece_escaped_dollar text at utf8 room is =
     let cuts = may_cut text at Doubled utf8 room is in
     record {
-      unit = EscapedDollar;
+      atom = EscapedDollar;
       first = first-opening (drop at text) (Some Doubled) is ∙ ap (λ l. Some (EscapedDollar, l)) (drop-drop 2 at text);
       alone = refl;
       start = refl;
@@ -82,7 +82,7 @@ piece_letter text at utf8 room is =
     let name : span_text text (record { start = at + 1; end = at + 2 }) ≡ take 1 (drop 1 here) =
     ap (λ n. take n (drop (at + 1) text)) one ∙ ap (take 1) (sym (drop-drop 1 at text)) in
     record {
-      unit = Reference (take 2 here) (take 1 (drop 1 here)) None;
+      atom = Reference (take 2 here) (take 1 (drop 1 here)) None;
       first = first-opening here (Some Letter) is ∙ ap (λ l. Some (Reference (take 2 here) (take 1 (drop 1 here)) None, l)) (drop-drop 2 at text);
       alone = ap (λ l. ReferencePiece l (span_text text (record { start = at + 1; end = at + 2 })) None) written ∙ ap (λ l. ReferencePiece (take 2 here) l None) name;
       start = refl;
@@ -143,18 +143,18 @@ pub piece_marked : (text : List ℕ) (at mark : ℕ) (inside : Inside) → IsUtf
     → IsInside text (at + 2) mark inside → IsPieceAt text at (v.Reference (reference_at at inside))
 piece_marked text at mark inside utf8 room is h =
     let front : List ℕ = take 2 (drop at text) in
-    let unit : TextUnit = marked_reference front h.units mark in
+    let atom : TextAtom = marked_reference front h.atoms mark in
     let end : ℕ = inside.close + 1 in
-    let first : first_unit (drop at text) ≡ Some (unit, drop end text) = first-marked text at mark is ∙ ap (option_map (marked_first front mark)) h.read in
-    let written : slice_range text at end ≡ source unit = sym (written_as text at end unit (omega (arith, h.later)) first) in
+    let first : first_atom (drop at text) ≡ Some (atom, drop end text) = first-marked text at mark is ∙ ap (option_map (marked_first front mark)) h.read in
+    let written : slice_range text at end ≡ source atom = sym (written_as text at end atom (omega (arith, h.later)) first) in
     let below : get_or text inside.close 0 < 128 = subst (λ n. n < 128) (sym h.marked) (mark_below mark front (opens_with (drop at text) (Marked mark) is).front) in
     record {
-      unit = unit;
+      atom = atom;
       first = first;
       alone = ap (λ l. ReferencePiece l (slice_range text (at + 2) (unwrap_or inside.colon inside.close))
           (option_map (span_text text) (option_map (λ c. record { start = c + 1; end = inside.close }) inside.colon))) written
-          ∙ ap (λ l. ReferencePiece (source unit) l (option_map (span_text text) (option_map (λ c. record { start = c + 1; end = inside.close }) inside.colon))) (sym h.name)
-          ∙ ap (ReferencePiece (source unit) (sources (before_colon h.units))) (spans_of text inside.close inside.colon ∙ sym h.modifiers);
+          ∙ ap (λ l. ReferencePiece (source atom) l (option_map (span_text text) (option_map (λ c. record { start = c + 1; end = inside.close }) inside.colon))) (sym h.name)
+          ∙ ap (ReferencePiece (source atom) (sources (before_colon h.atoms))) (spans_of text inside.close inside.colon ∙ sym h.modifiers);
       start = refl;
       later = omega (arith, h.later);
       within = omega (arith, h.within);
@@ -164,5 +164,5 @@ piece_marked text at mark inside utf8 room is h =
 
 -- a reference with marks that doesn't end
 pub piece_broken : (text : List ℕ) (at mark : ℕ) → opening_of (drop at text) ≡ Some (Marked mark) → up_to_mark mark (drop (at + 2) text) ≡ None
-    → first_unit (drop at text) ≡ None
+    → first_atom (drop at text) ≡ None
 piece_broken text at mark is none = first-marked text at mark is ∙ ap (option_map (marked_first (take 2 (drop at text)) mark)) none

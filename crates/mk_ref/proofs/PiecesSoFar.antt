@@ -9,17 +9,17 @@ use Rattle.std.proofs.lemmas.Str.{IsCharBoundary-start, IsCharBoundary-end}
 use Rattle.general_facts.specs.Lists.{slice_range-one}
 use Rattle.mk_ref.specs.declared.pieces_of_text.Piece.{Piece}
 use Rattle.mk_ref.specs.declared.pieces_of_text.Piece.TheVariants as v
-use Rattle.mk_ref.specs.Units.{TextUnit, Byte, EscapedDollar, Reference, opening_of, unit_before, first_unit, cut_on, cut, units_of, left_of}
+use Rattle.mk_ref.specs.Atoms.{TextAtom, Byte, EscapedDollar, Reference, opening_of, atom_before, first_atom, cut_on, cut, atoms_of, left_of}
 use Rattle.mk_ref.specs.Pieces.{TextPiece, LiteralPiece, with_byte, pieces_of}
 use Rattle.mk_ref.specs.Places.{piece_in_text, span_of_piece, FollowFrom, IsPieceIn, IsUnclosedAt}
 use Rattle.mk_ref.specs.Firsts.{literal_at, IsAlone, IsPieceAt}
-use Rattle.mk_ref.proofs.UnitSteps.{cut-next, first-nil}
+use Rattle.mk_ref.proofs.AtomSteps.{cut-next, first-nil}
 use Rattle.mk_ref.proofs.ScanSteps.{first-opening}
 use Rattle.mk_ref.proofs.InsideSteps.{range_join, range_none, length-range}
 
 -- the pieces found before `literal`, and the bytes from there up to `at`, which mean themselves
 pub record CutSoFar (text : List ℕ) (found : List Piece) (literal at : ℕ) : Type 0 where
-  pub pieces : map (piece_in_text text) found ++ pieces_of (map Byte (slice_range text literal at) ++ units_of (drop at text)) ≡ pieces_of (units_of text)
+  pub pieces : map (piece_in_text text) found ++ pieces_of (map Byte (slice_range text literal at) ++ atoms_of (drop at text)) ≡ pieces_of (atoms_of text)
   pub left : left_of (drop at text) ≡ left_of text
   pub order : FollowFrom 0 found literal
   pub places : All (IsPieceIn text) found
@@ -38,13 +38,13 @@ so_far-none text utf8 = record {
   starts = IsCharBoundary-start text utf8;
 }
 
-cut-first : (text : List ℕ) (unit : TextUnit) (rest : List ℕ) → first_unit text ≡ Some (unit, rest) → cut text ≡ unit_before unit (cut rest)
-cut-first text unit rest is = cut-next text ∙ ap (cut_on cut text) is
+cut-first : (text : List ℕ) (atom : TextAtom) (rest : List ℕ) → first_atom text ≡ Some (atom, rest) → cut text ≡ atom_before atom (cut rest)
+cut-first text atom rest is = cut-next text ∙ ap (cut_on cut text) is
 
-first_byte : (text : List ℕ) (at : ℕ) → at < length text → opening_of (drop at text) ≡ None → first_unit (drop at text) ≡ Some (Byte (get_or text at 0), drop (at + 1) text)
+first_byte : (text : List ℕ) (at : ℕ) → at < length text → opening_of (drop at text) ≡ None → first_atom (drop at text) ≡ Some (Byte (get_or text at 0), drop (at + 1) text)
 first_byte text at near plain =
     let from = drop_more text at 0 near in
-    ap first_unit from ∙ first-opening (get_or text at 0 ∷ drop (at + 1) text) None (ap opening_of (sym from) ∙ plain)
+    ap first_atom from ∙ first-opening (get_or text at 0 ∷ drop (at + 1) text) None (ap opening_of (sym from) ∙ plain)
 
 -- a byte that means itself
 pub so_far-byte : (text : List ℕ) (found : List Piece) (literal at : ℕ) → CutSoFar text found literal at → at < length text → opening_of (drop at text) ≡ None
@@ -57,9 +57,9 @@ so_far-byte text found literal at h near plain =
     sym (range_join text literal at (at + 1) h.ordered (omega arith)) ∙ ap (λ l. bytes ++ l) (slice_range-one text at near) in
     record {
       pieces = ap (λ l. map (piece_in_text text) found ++ pieces_of l)
-          (ap (λ l. map Byte l ++ units_of (drop (at + 1) text)) longer
-          ∙ ap (λ l. l ++ units_of (drop (at + 1) text)) (map-append Byte bytes (b ∷ []))
-          ∙ append_assoc (map Byte bytes) (Byte b ∷ []) (units_of (drop (at + 1) text))
+          (ap (λ l. map Byte l ++ atoms_of (drop (at + 1) text)) longer
+          ∙ ap (λ l. l ++ atoms_of (drop (at + 1) text)) (map-append Byte bytes (b ∷ []))
+          ∙ append_assoc (map Byte bytes) (Byte b ∷ []) (atoms_of (drop (at + 1) text))
           ∙ ap (λ x. map Byte bytes ++ x.0) (sym next))
           ∙ h.pieces;
       left = ap (λ x. x.1) (sym next) ∙ h.left;
@@ -75,21 +75,21 @@ abbrev pub literal_pieces : List ℕ → List TextPiece
 literal_pieces [] = []
 literal_pieces (b ∷ bytes) = LiteralPiece (b ∷ bytes) ∷ []
 
-alone_first : (unit : TextUnit) (piece : TextPiece) (units : List TextUnit) → IsAlone unit piece → pieces_of (unit ∷ units) ≡ piece ∷ pieces_of units
-alone_first (Byte b) piece units is = absurd is
-alone_first EscapedDollar piece units is = ap (λ p. p ∷ pieces_of units) (sym is)
-alone_first (Reference written name modifiers) piece units is = ap (λ p. p ∷ pieces_of units) (sym is)
+alone_first : (atom : TextAtom) (piece : TextPiece) (atoms : List TextAtom) → IsAlone atom piece → pieces_of (atom ∷ atoms) ≡ piece ∷ pieces_of atoms
+alone_first (Byte b) piece atoms is = absurd is
+alone_first EscapedDollar piece atoms is = ap (λ p. p ∷ pieces_of atoms) (sym is)
+alone_first (Reference written name modifiers) piece atoms is = ap (λ p. p ∷ pieces_of atoms) (sym is)
 
-alone_byte : (b : ℕ) (unit : TextUnit) (piece : TextPiece) (pieces : List TextPiece) → IsAlone unit piece → with_byte b (piece ∷ pieces) ≡ LiteralPiece (b ∷ []) ∷ piece ∷ pieces
+alone_byte : (b : ℕ) (atom : TextAtom) (piece : TextPiece) (pieces : List TextPiece) → IsAlone atom piece → with_byte b (piece ∷ pieces) ≡ LiteralPiece (b ∷ []) ∷ piece ∷ pieces
 alone_byte b (Byte c) piece pieces is = absurd is
 alone_byte b EscapedDollar piece pieces is = rw is refl
 alone_byte b (Reference written name modifiers) piece pieces is = rw is refl
 
-alone_after : (bytes : List ℕ) (unit : TextUnit) (piece : TextPiece) (units : List TextUnit) → IsAlone unit piece
-    → pieces_of (map Byte bytes ++ unit ∷ units) ≡ literal_pieces bytes ++ piece ∷ pieces_of units
-alone_after [] unit piece units is = alone_first unit piece units is
-alone_after (b ∷ []) unit piece units is = ap (with_byte b) (alone_first unit piece units is) ∙ alone_byte b unit piece (pieces_of units) is
-alone_after (b ∷ c ∷ bytes) unit piece units is = ap (with_byte b) (alone_after (c ∷ bytes) unit piece units is)
+alone_after : (bytes : List ℕ) (atom : TextAtom) (piece : TextPiece) (atoms : List TextAtom) → IsAlone atom piece
+    → pieces_of (map Byte bytes ++ atom ∷ atoms) ≡ literal_pieces bytes ++ piece ∷ pieces_of atoms
+alone_after [] atom piece atoms is = alone_first atom piece atoms is
+alone_after (b ∷ []) atom piece atoms is = ap (with_byte b) (alone_first atom piece atoms is) ∙ alone_byte b atom piece (pieces_of atoms) is
+alone_after (b ∷ c ∷ bytes) atom piece atoms is = ap (with_byte b) (alone_after (c ∷ bytes) atom piece atoms is)
 
 bytes_last : (bytes : List ℕ) → pieces_of (map Byte bytes ++ []) ≡ literal_pieces bytes
 bytes_last [] = refl
@@ -150,19 +150,19 @@ pub so_far-piece : (text : List ℕ) (found : List Piece) (literal at : ℕ) (pi
 so_far-piece text found literal at piece h p =
     let end : ℕ = (span_of_piece piece).end in
     let bytes : List ℕ = slice_range text literal at in
-    let next = cut-first (drop at text) p.unit (drop end text) p.first in
+    let next = cut-first (drop at text) p.atom (drop end text) p.first in
     let here : IsCharBoundary text at = subst (IsCharBoundary text) p.start (starts_cut text piece p.places) in
     let before : List Piece = literal_at literal at in
-    let rest : List TextPiece = pieces_of (units_of (drop end text)) in
+    let rest : List TextPiece = pieces_of (atoms_of (drop end text)) in
     let lit = literal_by (nat_lt literal at) text literal at refl h.ordered h.within h.starts here in
     record {
-      pieces = ap (λ l. map (piece_in_text text) ((found ++ before) ++ piece ∷ []) ++ pieces_of (map Byte l ++ units_of (drop end text))) (range_none text end)
+      pieces = ap (λ l. map (piece_in_text text) ((found ++ before) ++ piece ∷ []) ++ pieces_of (map Byte l ++ atoms_of (drop end text))) (range_none text end)
           ∙ ap (λ l. l ++ rest) (map-append (piece_in_text text) (found ++ before) (piece ∷ []) ∙ ap (λ l. l ++ piece_in_text text piece ∷ []) (map-append (piece_in_text text) found before))
           ∙ append_assoc (map (piece_in_text text) found ++ map (piece_in_text text) before) (piece_in_text text piece ∷ []) rest
           ∙ append_assoc (map (piece_in_text text) found) (map (piece_in_text text) before) (piece_in_text text piece ∷ rest)
           ∙ ap (λ l. map (piece_in_text text) found ++ (l ++ piece_in_text text piece ∷ rest)) lit.pieces
           ∙ ap (λ l. map (piece_in_text text) found ++ l)
-          (sym (ap (λ x. pieces_of (map Byte bytes ++ x.0)) next ∙ alone_after bytes p.unit (piece_in_text text piece) (units_of (drop end text)) p.alone))
+          (sym (ap (λ x. pieces_of (map Byte bytes ++ x.0)) next ∙ alone_after bytes p.atom (piece_in_text text piece) (atoms_of (drop end text)) p.alone))
           ∙ h.pieces;
       left = ap (λ x. x.1) (sym next) ∙ h.left;
       order = stand_on 0 (found ++ literal_at literal at) at (piece ∷ []) end (stand_on 0 found literal (literal_at literal at) at h.order lit.order) (p.start, p.later, refl);
@@ -175,7 +175,7 @@ so_far-piece text found literal at piece h p =
 
 -- all pieces of a text
 pub record AllCut (text : List ℕ) (found : List Piece) : Type 0 where
-  pub pieces : map (piece_in_text text) found ≡ pieces_of (units_of text)
+  pub pieces : map (piece_in_text text) found ≡ pieces_of (atoms_of text)
   pub whole : left_of text ≡ []
   pub order : FollowFrom 0 found (length text)
   pub places : All (IsPieceIn text) found
@@ -205,5 +205,5 @@ all-cut text found literal at h end =
     subst (λ n. AllCut text (found ++ literal_at literal n)) (sym last) (all_at text found literal (subst (CutSoFar text found literal) last h))
 
 -- a reference begins that doesn't end
-pub unclosed : (text : List ℕ) (found : List Piece) (literal at : ℕ) → CutSoFar text found literal at → at < length text → first_unit (drop at text) ≡ None → IsUnclosedAt text at
+pub unclosed : (text : List ℕ) (found : List Piece) (literal at : ℕ) → CutSoFar text found literal at → at < length text → first_atom (drop at text) ≡ None → IsUnclosedAt text at
 unclosed text found literal at h near none = record { inside = near; left = sym h.left ∙ ap (λ x. x.1) (cut-next (drop at text) ∙ ap (cut_on cut (drop at text)) none) }

@@ -5,52 +5,52 @@ use Rattle.std.proofs.lemmas.List.{drop_more, reverse-append}
 use Rattle.std.proofs.Math.ListN.{drop_of_length-le}
 use Rattle.mk_ref.specs.declared.opening.Opening.{Opening}
 use Rattle.mk_ref.specs.declared.opening.Opening.TheVariants.{Doubled, Letter, Marked}
-use Rattle.mk_ref.specs.Units.{TextUnit, Byte, EscapedDollar, Reference, opening_of, marked_reference, marked_first, unit_by, unit_before, with_more, up_to_mark, first_unit}
-use Rattle.mk_ref.specs.Ends.{GoesOnAt, EndsAt, UnitEndsAt}
-use Rattle.mk_ref.proofs.UnitSteps.{up_to-nil, up_to-cons}
+use Rattle.mk_ref.specs.Atoms.{TextAtom, Byte, EscapedDollar, Reference, opening_of, marked_reference, marked_first, atom_by, atom_before, with_more, up_to_mark, first_atom}
+use Rattle.mk_ref.specs.Ends.{GoesOnAt, EndsAt, AtomEndsAt}
+use Rattle.mk_ref.proofs.AtomSteps.{up_to-nil, up_to-cons}
 
 -- what follows the marks that close a text, the innermost first
 abbrev pub after_marks : List ℕ → List ℕ → Option (List ℕ)
 after_marks [] text = Some text
 after_marks (mark ∷ marks) text = option_and_then (λ x. after_marks marks x.1) (up_to_mark mark text)
 
-after-unit : (marks : List ℕ) (unit : TextUnit) (read : Option (List TextUnit × List ℕ))
-    → option_and_then (λ x. after_marks marks x.1) (option_map (unit_before unit) read) ≡ option_and_then (λ x. after_marks marks x.1) read
-after-unit marks unit None = refl
-after-unit marks unit (Some x) = refl
+after-atom : (marks : List ℕ) (atom : TextAtom) (read : Option (List TextAtom × List ℕ))
+    → option_and_then (λ x. after_marks marks x.1) (option_map (atom_before atom) read) ≡ option_and_then (λ x. after_marks marks x.1) read
+after-atom marks atom None = refl
+after-atom marks atom (Some x) = refl
 
-after-reference : (mark : ℕ) (marks front : List ℕ) (inner : ℕ) (read : Option (List TextUnit × List ℕ))
+after-reference : (mark : ℕ) (marks front : List ℕ) (inner : ℕ) (read : Option (List TextAtom × List ℕ))
     → option_and_then (λ x. after_marks marks x.1) (with_more (up_to_mark mark) (option_map (marked_first front inner) read))
     ≡ option_and_then (λ x. after_marks (mark ∷ marks) x.1) read
 after-reference mark marks front inner None = refl
-after-reference mark marks front inner (Some x) = after-unit marks (marked_reference front x.0 inner) (up_to_mark mark x.1)
+after-reference mark marks front inner (Some x) = after-atom marks (marked_reference front x.0 inner) (up_to_mark mark x.1)
 
 pub after-none : (mark : ℕ) (marks : List ℕ) → after_marks (mark ∷ marks) [] ≡ None
 after-none mark marks = ap (option_and_then (λ x. after_marks marks x.1)) (up_to-nil mark)
 
 pub after-mark : (mark : ℕ) (marks : List ℕ) (b : ℕ) (rest : List ℕ) → nat_eq b mark ≡ true → after_marks (mark ∷ marks) (b ∷ rest) ≡ after_marks marks rest
 after-mark mark marks b rest is =
-    ap (option_and_then (λ x. after_marks marks x.1)) (up_to-cons mark b rest ∙ ap (λ t. cond t (Some ([], rest)) (with_more (up_to_mark mark) (first_unit (b ∷ rest)))) is)
+    ap (option_and_then (λ x. after_marks marks x.1)) (up_to-cons mark b rest ∙ ap (λ t. cond t (Some ([], rest)) (with_more (up_to_mark mark) (first_atom (b ∷ rest)))) is)
 
--- a text that goes on with a unit
-pub up_to-unit : (mark b : ℕ) (rest : List ℕ) → nat_eq b mark ≡ false → up_to_mark mark (b ∷ rest) ≡ with_more (up_to_mark mark) (first_unit (b ∷ rest))
-up_to-unit mark b rest other = up_to-cons mark b rest ∙ ap (λ t. cond t (Some ([], rest)) (with_more (up_to_mark mark) (first_unit (b ∷ rest)))) other
+-- a text that goes on with an atom
+pub up_to-atom : (mark b : ℕ) (rest : List ℕ) → nat_eq b mark ≡ false → up_to_mark mark (b ∷ rest) ≡ with_more (up_to_mark mark) (first_atom (b ∷ rest))
+up_to-atom mark b rest other = up_to-cons mark b rest ∙ ap (λ t. cond t (Some ([], rest)) (with_more (up_to_mark mark) (first_atom (b ∷ rest)))) other
 
 -- what a text begins with, from its opening
-pub first-opening : (text : List ℕ) (opening : Option Opening) → opening_of text ≡ opening → first_unit text ≡ unit_by up_to_mark opening text
-unfolding first_unit
-first-opening text opening is = ap (λ o. unit_by up_to_mark o text) is
+pub first-opening : (text : List ℕ) (opening : Option Opening) → opening_of text ≡ opening → first_atom text ≡ atom_by up_to_mark opening text
+unfolding first_atom
+first-opening text opening is = ap (λ o. atom_by up_to_mark o text) is
 
-pub after-first : (mark : ℕ) (marks : List ℕ) (b : ℕ) (rest : List ℕ) (unit : TextUnit) (behind : List ℕ)
-    → nat_eq b mark ≡ false → first_unit (b ∷ rest) ≡ Some (unit, behind) → after_marks (mark ∷ marks) (b ∷ rest) ≡ after_marks (mark ∷ marks) behind
-after-first mark marks b rest unit behind other is =
-    ap (option_and_then (λ x. after_marks marks x.1)) (up_to-unit mark b rest other ∙ ap (with_more (up_to_mark mark)) is)
-    ∙ after-unit marks unit (up_to_mark mark behind)
+pub after-first : (mark : ℕ) (marks : List ℕ) (b : ℕ) (rest : List ℕ) (atom : TextAtom) (behind : List ℕ)
+    → nat_eq b mark ≡ false → first_atom (b ∷ rest) ≡ Some (atom, behind) → after_marks (mark ∷ marks) (b ∷ rest) ≡ after_marks (mark ∷ marks) behind
+after-first mark marks b rest atom behind other is =
+    ap (option_and_then (λ x. after_marks marks x.1)) (up_to-atom mark b rest other ∙ ap (with_more (up_to_mark mark)) is)
+    ∙ after-atom marks atom (up_to_mark mark behind)
 
 pub after-open : (mark : ℕ) (marks : List ℕ) (b : ℕ) (rest : List ℕ) (inner : ℕ)
     → nat_eq b mark ≡ false → opening_of (b ∷ rest) ≡ Some (Marked inner) → after_marks (mark ∷ marks) (b ∷ rest) ≡ after_marks (inner ∷ mark ∷ marks) (drop 1 rest)
 after-open mark marks b rest inner other is =
-    ap (option_and_then (λ x. after_marks marks x.1)) (up_to-unit mark b rest other ∙ ap (with_more (up_to_mark mark)) (first-opening (b ∷ rest) (Some (Marked inner)) is))
+    ap (option_and_then (λ x. after_marks marks x.1)) (up_to-atom mark b rest other ∙ ap (with_more (up_to_mark mark)) (first-opening (b ∷ rest) (Some (Marked inner)) is))
     ∙ after-reference mark marks (take 2 (b ∷ rest)) inner (up_to_mark inner (drop 1 rest))
 
 -- The marks that are open at a place: after them, the innermost first, comes what follows the first mark to be closed from
@@ -74,7 +74,7 @@ module _ (text : List ℕ) (at : ℕ) (near : at < length text) where
   opening_here opening is = ap opening_of (sym from_here) ∙ is
 
   first_here : (opening : Option Opening) → opening_of (drop at text) ≡ opening
-      → first_unit (get_or text at 0 ∷ drop (at + 1) text) ≡ unit_by up_to_mark opening (get_or text at 0 ∷ drop (at + 1) text)
+      → first_atom (get_or text at 0 ∷ drop (at + 1) text) ≡ atom_by up_to_mark opening (get_or text at 0 ∷ drop (at + 1) text)
   first_here opening is = first-opening (get_or text at 0 ∷ drop (at + 1) text) opening (opening_here opening is)
 
   two_on : drop 1 (drop (at + 1) text) ≡ drop (at + 2) text
@@ -154,7 +154,7 @@ open-inner text start closing around mark at inner h room other is =
     ∙ ap (after_marks (inner ∷ mark ∷ reverse around)) (two_on text at near)
     ∙ ap (λ l. after_marks (inner ∷ l) (drop (at + 2) text)) (sym (reverse-append around (mark ∷ []))))
 
-no_rest : (read : Option (List TextUnit × List ℕ)) → option_map (λ x. x.1) read ≡ None → read ≡ None
+no_rest : (read : Option (List TextAtom × List ℕ)) → option_map (λ x. x.1) read ≡ None → read ≡ None
 no_rest None is = refl
 no_rest (Some x) is = cc
 
@@ -166,45 +166,45 @@ open-end text start closing around mark at h end =
     (sym h.behind ∙ ap (after_marks (mark ∷ reverse around)) (drop_of_length-le text end) ∙ after-none mark (reverse around))
 
 pub first-marked : (text : List ℕ) (at mark : ℕ) → opening_of (drop at text) ≡ Some (Marked mark)
-    → first_unit (drop at text) ≡ option_map (marked_first (take 2 (drop at text)) mark) (up_to_mark mark (drop (at + 2) text))
+    → first_atom (drop at text) ≡ option_map (marked_first (take 2 (drop at text)) mark) (up_to_mark mark (drop (at + 2) text))
 first-marked text at mark is =
     first-opening (drop at text) (Some (Marked mark)) is
     ∙ ap (λ l. option_map (marked_first (take 2 (drop at text)) mark) (up_to_mark mark l)) (drop-drop 2 at text)
 
--- where a unit ends: a byte that means itself
-pub unit-byte : (text : List ℕ) (at : ℕ) → at < length text → opening_of (drop at text) ≡ None → GoesOnAt text at (first_unit (drop at text)) (at + 1)
-unit-byte text at near plain = record {
-  rest = ap (λ l. option_map (λ x. x.1) (first_unit l)) (from_here text at near) ∙ ap (option_map (λ x. x.1)) (first_here text at near None plain);
+-- where an atom ends: a byte that means itself
+pub atom-byte : (text : List ℕ) (at : ℕ) → at < length text → opening_of (drop at text) ≡ None → GoesOnAt text at (first_atom (drop at text)) (at + 1)
+atom-byte text at near plain = record {
+  rest = ap (λ l. option_map (λ x. x.1) (first_atom l)) (from_here text at near) ∙ ap (option_map (λ x. x.1)) (first_here text at near None plain);
   later = omega arith;
   within = omega arith;
 }
 
 -- a pair or a reference of one letter
-pub unit-two : (text : List ℕ) (at : ℕ) (opening : Opening) → IsTwo opening → at + 2 ≤ length text → opening_of (drop at text) ≡ Some opening
-    → GoesOnAt text at (first_unit (drop at text)) (at + 2)
-unit-two text at Doubled two room is = record {
+pub atom-two : (text : List ℕ) (at : ℕ) (opening : Opening) → IsTwo opening → at + 2 ≤ length text → opening_of (drop at text) ≡ Some opening
+    → GoesOnAt text at (first_atom (drop at text)) (at + 2)
+atom-two text at Doubled two room is = record {
   rest = ap (option_map (λ x. x.1)) (first-opening (drop at text) (Some Doubled) is) ∙ ap Some (drop-drop 2 at text);
   later = omega arith;
   within = room;
 }
-unit-two text at Letter two room is = record {
+atom-two text at Letter two room is = record {
   rest = ap (option_map (λ x. x.1)) (first-opening (drop at text) (Some Letter) is) ∙ ap Some (drop-drop 2 at text);
   later = omega arith;
   within = room;
 }
-unit-two text at (Marked inner) two room is = elim two [ ]
+atom-two text at (Marked inner) two room is = elim two [ ]
 
-rest_of_marked : (front : List ℕ) (mark : ℕ) (read : Option (List TextUnit × List ℕ))
+rest_of_marked : (front : List ℕ) (mark : ℕ) (read : Option (List TextAtom × List ℕ))
     → option_map (λ x. x.1) (option_map (marked_first front mark) read) ≡ option_map (λ x. x.1) read
 rest_of_marked front mark None = refl
 rest_of_marked front mark (Some x) = refl
 
 -- a reference with marks
-pub unit-marked : (text : List ℕ) (at mark : ℕ) → opening_of (drop at text) ≡ Some (Marked mark)
-    → (end : Option ℕ) → EndsAt text (at + 2) mark end → UnitEndsAt text at end
-unit-marked text at mark is None h =
+pub atom-marked : (text : List ℕ) (at mark : ℕ) → opening_of (drop at text) ≡ Some (Marked mark)
+    → (end : Option ℕ) → EndsAt text (at + 2) mark end → AtomEndsAt text at end
+atom-marked text at mark is None h =
     first-marked text at mark is ∙ ap (option_map (marked_first (take 2 (drop at text)) mark)) h
-unit-marked text at mark is (Some end) h = record {
+atom-marked text at mark is (Some end) h = record {
   rest = ap (option_map (λ x. x.1)) (first-marked text at mark is) ∙ rest_of_marked (take 2 (drop at text)) mark (up_to_mark mark (drop (at + 2) text)) ∙ h.rest;
   later = omega (arith, h.later);
   within = h.within;

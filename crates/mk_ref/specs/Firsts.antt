@@ -5,7 +5,7 @@ use Rattle.mk_ref.specs.declared.ends.Inside.{Inside}
 use Rattle.mk_ref.specs.declared.pieces_of_text.Reference.{Reference}
 use Rattle.mk_ref.specs.declared.pieces_of_text.Piece.{Piece}
 use Rattle.mk_ref.specs.declared.pieces_of_text.Piece.TheVariants as v
-use Rattle.mk_ref.specs.Units.{TextUnit, Byte, EscapedDollar, Reference as ReferenceUnit, first_unit}
+use Rattle.mk_ref.specs.Atoms.{TextAtom, Byte, EscapedDollar, Reference as ReferenceAtom, first_atom}
 use Rattle.mk_ref.specs.Pieces.{TextPiece, EscapedDollarPiece, ReferencePiece}
 use Rattle.mk_ref.specs.Places.{piece_in_text, span_of_piece, IsPieceIn}
 
@@ -22,16 +22,16 @@ reference_at at inside = record {
 }
 
 -- a pair or a reference, which is a piece of its own
-abbrev pub IsAlone : TextUnit → TextPiece → Type 0
+abbrev pub IsAlone : TextAtom → TextPiece → Type 0
 IsAlone (Byte b) piece = ⊥
 IsAlone EscapedDollar piece = piece ≡ EscapedDollarPiece
-IsAlone (ReferenceUnit written name modifiers) piece = piece ≡ ReferencePiece written name modifiers
+IsAlone (ReferenceAtom written name modifiers) piece = piece ≡ ReferencePiece written name modifiers
 
 -- the piece, a pair or a reference, that a text has at a place
 pub record IsPieceAt (text : List ℕ) (at : ℕ) (piece : Piece) : Type 0 where
-  pub unit : TextUnit
-  pub first : first_unit (drop at text) ≡ Some (unit, drop (span_of_piece piece).end text)
-  pub alone : IsAlone unit (piece_in_text text piece)
+  pub atom : TextAtom
+  pub first : first_atom (drop at text) ≡ Some (atom, drop (span_of_piece piece).end text)
+  pub alone : IsAlone atom (piece_in_text text piece)
   pub start : (span_of_piece piece).start ≡ at
   pub later : at < (span_of_piece piece).end
   pub within : (span_of_piece piece).end ≤ length text
@@ -39,5 +39,5 @@ pub record IsPieceAt (text : List ℕ) (at : ℕ) (piece : Piece) : Type 0 where
 
 -- the same, or none if a reference begins there that doesn't end
 abbrev pub BeginsAt : List ℕ → ℕ → Option Piece → Type 0
-BeginsAt text at None = first_unit (drop at text) ≡ None
+BeginsAt text at None = first_atom (drop at text) ≡ None
 BeginsAt text at (Some piece) = IsPieceAt text at piece

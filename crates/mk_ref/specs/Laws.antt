@@ -1,4 +1,4 @@
--- What holds of the units of every text.
+-- What holds of the atoms of every text.
 use Rattle.std.specs.Prelude.{◌≡◌, ◌≢◌, ◌⊎◌, ◌↔◌, ℕ, true, false, ◌==◌, List, [], ◌∷◌, ◌++◌, length, drop, slice_index, Option}
 use Rattle.std.specs.Prelude.{Some, None, IfSome, All, map, if◌then◌else◌}
 use Rattle.std.specs.Char.{is_ascii_alphabetic}
@@ -6,13 +6,13 @@ use Rattle.std.specs.List.{flat_map, list_any}
 use Rattle.general_facts.specs.Ascii.{dollar, left_paren, right_paren, colon, left_brace, right_brace}
 use Rattle.mk_ref.specs.Outside.{outside}
 use Rattle.mk_ref.specs.declared.opening.Opening.TheVariants.{Marked}
-use Rattle.mk_ref.specs.Pieces.{units_in, pieces_of}
-use Rattle.mk_ref.specs.Units.{TextUnit, Byte, EscapedDollar, Reference, opening_of, sources, before_colon, following_colon}
-use Rattle.mk_ref.specs.Units.{with_more, cut_on, up_to_mark, first_unit, cut, units_of, left_of}
+use Rattle.mk_ref.specs.Pieces.{atoms_in, pieces_of}
+use Rattle.mk_ref.specs.Atoms.{TextAtom, Byte, EscapedDollar, Reference, opening_of, sources, before_colon, following_colon}
+use Rattle.mk_ref.specs.Atoms.{with_more, cut_on, up_to_mark, first_atom, cut, atoms_of, left_of}
 
--- the units of a text and what is left, put together, are the text
-abbrev pub UnitsAreText : Type 0
-UnitsAreText = (text : List ℕ) → sources (units_of text) ++ left_of text ≡ text
+-- the atoms of a text and what is left, put together, are the text
+abbrev pub AtomsAreText : Type 0
+AtomsAreText = (text : List ℕ) → sources (atoms_of text) ++ left_of text ≡ text
 
 -- modifiers with the colon before them
 abbrev pub with_colon : Option (List ℕ) → List ℕ
@@ -40,48 +40,48 @@ pub record IsMarkedReference (written name : List ℕ) (modifiers : Option (List
   pub written_as : written ≡ front ++ name ++ with_colon modifiers ++ mark ∷ []
 
 -- a reference is its name and its modifiers put together with their marks
-abbrev pub IsPutTogether : TextUnit → Type 0
+abbrev pub IsPutTogether : TextAtom → Type 0
 IsPutTogether (Byte b) = Unit {0}
 IsPutTogether EscapedDollar = Unit {0}
 IsPutTogether (Reference written name modifiers) = IsLetterReference written name modifiers ⊎ IsMarkedReference written name modifiers
 
 -- each reference of a text is put together from its name and its modifiers
 abbrev pub ReferencesArePutTogether : Type 0
-ReferencesArePutTogether = (text : List ℕ) → All IsPutTogether (units_of text)
+ReferencesArePutTogether = (text : List ℕ) → All IsPutTogether (atoms_of text)
 
 -- every reference in the name and in the modifiers of a reference ends there: cut alone, they leave nothing
-abbrev pub HasWholeParts : TextUnit → Type 0
+abbrev pub HasWholeParts : TextAtom → Type 0
 HasWholeParts (Byte b) = Unit {0}
 HasWholeParts EscapedDollar = Unit {0}
 HasWholeParts (Reference written name modifiers) = (left_of name ≡ []) × IfSome modifiers (λ text. left_of text ≡ [])
 
 -- the name and the modifiers of each reference of a text are cut alone with nothing left
 abbrev pub PartsAreWhole : Type 0
-PartsAreWhole = (text : List ℕ) → All HasWholeParts (units_of text)
+PartsAreWhole = (text : List ℕ) → All HasWholeParts (atoms_of text)
 
--- the inside of a reference, its name and its modifiers, each cut alone, have the units that are read of
+-- the inside of a reference, its name and its modifiers, each cut alone, have the atoms that are read of
 -- them in their place
-pub record AreCutAlone (units : List TextUnit) : Type 0 where
-  pub inside : cut (sources units) ≡ (units, [])
-  pub name : cut (sources (before_colon units)) ≡ (before_colon units, [])
-  pub modifiers : IfSome (following_colon units) (λ more. cut (sources more) ≡ (more, []))
+pub record AreCutAlone (atoms : List TextAtom) : Type 0 where
+  pub inside : cut (sources atoms) ≡ (atoms, [])
+  pub name : cut (sources (before_colon atoms)) ≡ (before_colon atoms, [])
+  pub modifiers : IfSome (following_colon atoms) (λ more. cut (sources more) ≡ (more, []))
 
 -- this holds for the inside of each reference
 abbrev pub InsidesAreCutAlone : Type 0
 InsidesAreCutAlone = (mark : ℕ) (text : List ℕ) → IfSome (up_to_mark mark text) (λ read. AreCutAlone read.0)
 
--- pieces are made of the units that they are the pieces of
-abbrev pub PiecesAreUnits : Type 0
-PiecesAreUnits = (units : List TextUnit) → flat_map units_in (pieces_of units) ≡ units
+-- pieces are made of the atoms that they are the pieces of
+abbrev pub PiecesAreAtoms : Type 0
+PiecesAreAtoms = (atoms : List TextAtom) → flat_map atoms_in (pieces_of atoms) ≡ atoms
 
--- a text is cut by cutting off its first unit and then cutting what follows that
+-- a text is cut by cutting off its first atom and then cutting what follows that
 abbrev pub CutGoesOn : Type 0
-CutGoesOn = (text : List ℕ) → cut text ≡ cut_on cut text (first_unit text)
+CutGoesOn = (text : List ℕ) → cut text ≡ cut_on cut text (first_atom text)
 
--- units up to a mark are read one after another, until the mark comes first
+-- atoms up to a mark are read one after another, until the mark comes first
 abbrev pub ReadGoesOn : Type 0
 ReadGoesOn = (mark b : ℕ) (rest : List ℕ)
-    → up_to_mark mark (b ∷ rest) ≡ (if b == mark then Some ([], rest) else with_more (up_to_mark mark) (first_unit (b ∷ rest)))
+    → up_to_mark mark (b ∷ rest) ≡ (if b == mark then Some ([], rest) else with_more (up_to_mark mark) (first_atom (b ∷ rest)))
 
 -- a text without a dollar is cut into its bytes, and nothing is left
 abbrev pub DollarsAlonePartTexts : Type 0
@@ -98,24 +98,24 @@ OutsideKeepsPlaces = (text : List ℕ)
 abbrev pub ClosesReferences : ℕ → Type 0
 ClosesReferences mark = (mark ≡ right_brace) ⊎ (mark ≡ right_paren)
 
--- A text is what these units are written as, a mark, and a rest. Before the mark it is cut into just these units,
+-- A text is what these atoms are written as, a mark, and a rest. Before the mark it is cut into just these atoms,
 -- with nothing left, and none of them is the mark itself. So the mark is the first one outside references.
-pub record IsUpToMark (mark : ℕ) (text : List ℕ) (units : List TextUnit) (rest : List ℕ) : Type 0 where
-  pub written : text ≡ sources units ++ mark ∷ rest
-  pub alone : cut (sources units) ≡ (units, [])
-  pub first : All (λ unit. unit ≢ Byte mark) units
+pub record IsUpToMark (mark : ℕ) (text : List ℕ) (atoms : List TextAtom) (rest : List ℕ) : Type 0 where
+  pub written : text ≡ sources atoms ++ mark ∷ rest
+  pub alone : cut (sources atoms) ≡ (atoms, [])
+  pub first : All (λ atom. atom ≢ Byte mark) atoms
 
--- the units up to a closing mark are exactly those up to the first one outside references
+-- the atoms up to a closing mark are exactly those up to the first one outside references
 abbrev pub ReadsToTheFirstMark : Type 0
-ReadsToTheFirstMark = (mark : ℕ) (text : List ℕ) (units : List TextUnit) (rest : List ℕ) → ClosesReferences mark
-    → (up_to_mark mark text ≡ Some (units, rest)) ↔ IsUpToMark mark text units rest
+ReadsToTheFirstMark = (mark : ℕ) (text : List ℕ) (atoms : List TextAtom) (rest : List ℕ) → ClosesReferences mark
+    → (up_to_mark mark text ≡ Some (atoms, rest)) ↔ IsUpToMark mark text atoms rest
 
 -- a text begins with the first two bytes of a reference that no mark closes
 pub record NeverCloses (text : List ℕ) : Type 0 where
   pub mark : ℕ
   pub begins : opening_of text ≡ Some (Marked mark)
-  pub unclosed : (units : List TextUnit) (rest : List ℕ) → ¬ IsUpToMark mark (drop 2 text) units rest
+  pub unclosed : (atoms : List TextAtom) (rest : List ℕ) → ¬ IsUpToMark mark (drop 2 text) atoms rest
 
--- what is left of a text after its units is nothing, or begins with a reference that no mark closes
+-- what is left of a text after its atoms is nothing, or begins with a reference that no mark closes
 abbrev pub OnlyTheUnclosedIsLeft : Type 0
 OnlyTheUnclosedIsLeft = (text : List ℕ) → (left_of text ≡ []) ⊎ NeverCloses (left_of text)

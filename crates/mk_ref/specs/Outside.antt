@@ -2,7 +2,7 @@
 use Rattle.std.specs.Prelude.{ℕ, List, [], ◌∷◌, ◌++◌, map}
 use Rattle.std.specs.List.{flat_map}
 use Rattle.general_facts.specs.Ascii.{dollar}
-use Rattle.mk_ref.specs.Units.{TextUnit, Byte, EscapedDollar, Reference, units_of, left_of}
+use Rattle.mk_ref.specs.Atoms.{TextAtom, Byte, EscapedDollar, Reference, atoms_of, left_of}
 use Rattle.mk_ref.specs.Pieces.{TextPiece, LiteralPiece, EscapedDollarPiece, ReferencePiece}
 
 -- a dollar for each byte of a text
@@ -10,7 +10,7 @@ abbrev pub dollars : List ℕ → List ℕ
 dollars text = map (λ b. dollar) text
 
 -- a byte that means itself, as it is; dollars in place of a pair and of a reference
-abbrev pub covered : TextUnit → List ℕ
+abbrev pub covered : TextAtom → List ℕ
 covered (Byte b) = b ∷ []
 covered EscapedDollar = dollar ∷ dollar ∷ []
 covered (Reference written name modifiers) = dollars written
@@ -24,4 +24,4 @@ covered_piece (ReferencePiece written name modifiers) = dollars written
 -- A text in which dollars cover all references and pairs, and a reference that doesn't end, which reaches
 -- to the end of the text (this project's choice). Every other byte keeps its place.
 unfoldable pub outside : List ℕ → List ℕ
-outside text = flat_map covered (units_of text) ++ dollars (left_of text)
+outside text = flat_map covered (atoms_of text) ++ dollars (left_of text)

@@ -1,6 +1,6 @@
--- The pieces of a text of the make language: its units, with the bytes that mean themselves put together.
+-- The pieces of a text of the make language: its atoms, with the bytes that mean themselves put together.
 use Rattle.std.specs.Prelude.{ℕ, List, [], ◌∷◌, map, Option}
-use Rattle.mk_ref.specs.Units.{TextUnit, Byte, EscapedDollar, Reference}
+use Rattle.mk_ref.specs.Atoms.{TextAtom, Byte, EscapedDollar, Reference}
 
 -- a literal, one or more bytes that mean themselves; a pair, `$$`; or a reference, with all that it is
 -- written as, its name and its modifiers
@@ -16,15 +16,15 @@ with_byte b (LiteralPiece bytes ∷ pieces) = LiteralPiece (b ∷ bytes) ∷ pie
 with_byte b (EscapedDollarPiece ∷ pieces) = LiteralPiece (b ∷ []) ∷ EscapedDollarPiece ∷ pieces
 with_byte b (ReferencePiece written name modifiers ∷ pieces) = LiteralPiece (b ∷ []) ∷ ReferencePiece written name modifiers ∷ pieces
 
--- the pieces of units
-abbrev pub pieces_of : List TextUnit → List TextPiece
+-- the pieces of atoms
+abbrev pub pieces_of : List TextAtom → List TextPiece
 pieces_of [] = []
-pieces_of (Byte b ∷ units) = with_byte b (pieces_of units)
-pieces_of (EscapedDollar ∷ units) = EscapedDollarPiece ∷ pieces_of units
-pieces_of (Reference written name modifiers ∷ units) = ReferencePiece written name modifiers ∷ pieces_of units
+pieces_of (Byte b ∷ atoms) = with_byte b (pieces_of atoms)
+pieces_of (EscapedDollar ∷ atoms) = EscapedDollarPiece ∷ pieces_of atoms
+pieces_of (Reference written name modifiers ∷ atoms) = ReferencePiece written name modifiers ∷ pieces_of atoms
 
--- the units that a piece is made of
-abbrev pub units_in : TextPiece → List TextUnit
-units_in (LiteralPiece bytes) = map Byte bytes
-units_in EscapedDollarPiece = EscapedDollar ∷ []
-units_in (ReferencePiece written name modifiers) = Reference written name modifiers ∷ []
+-- the atoms that a piece is made of
+abbrev pub atoms_in : TextPiece → List TextAtom
+atoms_in (LiteralPiece bytes) = map Byte bytes
+atoms_in EscapedDollarPiece = EscapedDollar ∷ []
+atoms_in (ReferencePiece written name modifiers) = Reference written name modifiers ∷ []

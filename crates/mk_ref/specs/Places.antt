@@ -8,7 +8,7 @@ use Rattle.mk_ref.specs.declared.pieces_of_text.Piece.{Piece}
 use Rattle.mk_ref.specs.declared.pieces_of_text.Piece.TheVariants as v
 use Rattle.mk_ref.specs.declared.pieces_of_text.PiecesFault.{PiecesFault}
 use Rattle.mk_ref.specs.declared.pieces_of_text.PiecesFault.TheVariants as f
-use Rattle.mk_ref.specs.Units.{left_of}
+use Rattle.mk_ref.specs.Atoms.{left_of}
 use Rattle.mk_ref.specs.Pieces.{TextPiece, LiteralPiece, EscapedDollarPiece, ReferencePiece}
 
 -- a piece, with the parts of the text at its places
@@ -63,7 +63,7 @@ IsPieceIn text (v.Literal span) = IsSpanOf text span
 IsPieceIn text (v.EscapedDollar span) = IsSpanOf text span × (span.end ≡ span.start + 2)
 IsPieceIn text (v.Reference reference) = IsReferenceIn text reference
 
--- the text from a place on is what is left of it after its units, and begins a reference that doesn't end
+-- the text from a place on is what is left of it after its atoms, and begins a reference that doesn't end
 pub record IsUnclosedAt (text : List ℕ) (at : ℕ) : Type 0 where
   pub inside : at < length text
   pub left : left_of text ≡ drop at text

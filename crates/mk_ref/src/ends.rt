@@ -1,6 +1,6 @@
-//! Where the units of a text end: references, `$$` pairs and single bytes.
+//! Where the atoms of a text end: references, `$$` pairs and single bytes.
 ghost use Rattle.std.specs.Prelude.{◌≡◌, ◌+◌, ◌<◌, ◌≤◌, length, drop, IfOk};
-ghost use Rattle.mk_ref.specs.Ends.{EndsAt, UnitEndsAt, EndsInside};
+ghost use Rattle.mk_ref.specs.Ends.{EndsAt, AtomEndsAt, EndsInside};
 
 use crate::opening::{Opening, opening_at};
 use std::alloc::{AllocError, Global};
@@ -51,11 +51,11 @@ pub(crate) fn after_mark(
     Ok(None)
 }
 
-/// The index after the unit of a text that begins at `at`: after a reference, a `$$` pair or a single byte.
+/// The index after the atom of a text that begins at `at`: after a reference, a `$$` pair or a single byte.
 /// It is `None` if a reference begins there that doesn't end.
-fn after_unit(alloc: Global, bytes: &[u8], at: usize) -> Result<Option<usize>, AllocError>
+fn after_atom(alloc: Global, bytes: &[u8], at: usize) -> Result<Option<usize>, AllocError>
     requires { at < length bytes.now }
-    ensures { IfOk result (UnitEndsAt bytes.now at) }
+    ensures { IfOk result (AtomEndsAt bytes.now at) }
 {
     match opening_at(bytes, at) {
         Some(Opening::Marked(closing)) => after_mark(alloc, bytes, at + 2, closing),
@@ -85,7 +85,7 @@ pub(crate) fn inside_from(
         if bytes[at] == b':' && colon.is_none() {
             colon = Some(at);
         }
-        match after_unit(alloc, bytes, at)? {
+        match after_atom(alloc, bytes, at)? {
             Some(behind) => at = behind,
             None => return Ok(None),
         }

@@ -1,13 +1,13 @@
 //! What holds of every text that is cut into literals, `$$` pairs and references. Each function does nothing:
 //! its clause is the law.
-ghost use Rattle.mk_ref.specs.Laws.{UnitsAreText, ReferencesArePutTogether, CutGoesOn, ReadGoesOn, PartsAreWhole};
-ghost use Rattle.mk_ref.specs.Laws.{InsidesAreCutAlone, PiecesAreUnits, DollarsAlonePartTexts, OutsideKeepsPlaces};
+ghost use Rattle.mk_ref.specs.Laws.{AtomsAreText, ReferencesArePutTogether, CutGoesOn, ReadGoesOn, PartsAreWhole};
+ghost use Rattle.mk_ref.specs.Laws.{InsidesAreCutAlone, PiecesAreAtoms, DollarsAlonePartTexts, OutsideKeepsPlaces};
 ghost use Rattle.mk_ref.specs.Laws.{OnlyTheUnclosedIsLeft, ReadsToTheFirstMark};
 
-/// The units of a text (references, `$$` pairs and single bytes) and what is left of it, put together, are
+/// The atoms of a text (references, `$$` pairs and single bytes) and what is left of it, put together, are
 /// the text.
-pub fn units_are_text()
-    ensures { UnitsAreText }
+pub fn atoms_are_text()
+    ensures { AtomsAreText }
 {}
 
 /// Each reference of a text is its name and its modifiers, put together with its marks and its colon.
@@ -15,12 +15,12 @@ pub fn references_are_put_together()
     ensures { ReferencesArePutTogether }
 {}
 
-/// A text is cut into units by cutting off its first unit, and then cutting what follows that.
+/// A text is cut into atoms by cutting off its first atom, and then cutting what follows that.
 pub fn cut_goes_on()
     ensures { CutGoesOn }
 {}
 
-/// The units inside a reference, up to its closing mark, are read one after another, until the mark comes
+/// The atoms inside a reference, up to its closing mark, are read one after another, until the mark comes
 /// first.
 pub fn read_goes_on()
     ensures { ReadGoesOn }
@@ -31,7 +31,7 @@ pub fn reads_to_the_first_mark()
     ensures { ReadsToTheFirstMark }
 {}
 
-/// A text is cut into units up to its end, or up to the first reference that no mark closes.
+/// A text is cut into atoms up to its end, or up to the first reference that no mark closes.
 pub fn only_the_unclosed_is_left()
     ensures { OnlyTheUnclosedIsLeft }
 {}
@@ -41,16 +41,16 @@ pub fn parts_are_whole()
     ensures { PartsAreWhole }
 {}
 
-/// The inside of a reference, its name and its modifiers, each cut alone, have the units that are read
+/// The inside of a reference, its name and its modifiers, each cut alone, have the atoms that are read
 /// of them in their place.
 pub fn insides_are_cut_alone()
     ensures { InsidesAreCutAlone }
 {}
 
-/// The pieces of a text (literals, `$$` pairs and references) are made of exactly its units: nothing is lost
+/// The pieces of a text (literals, `$$` pairs and references) are made of exactly its atoms: nothing is lost
 /// when bytes are put together.
-pub fn pieces_are_units()
-    ensures { PiecesAreUnits }
+pub fn pieces_are_atoms()
+    ensures { PiecesAreAtoms }
 {}
 
 /// A text without a dollar is its bytes: it has no reference and no `$$` pair, and nothing is left of it.

@@ -1,6 +1,6 @@
 //! What a `$` of a text opens: a `$$` pair or a reference.
 ghost use Rattle.std.specs.Prelude.{◌≡◌, ◌+◌, ◌<◌, ◌≤◌, length, drop, OnSome};
-ghost use Rattle.mk_ref.specs.Units.{opening_of};
+ghost use Rattle.mk_ref.specs.Atoms.{opening_of};
 
 /// What a `$` makes with the byte after it.
 #[derive(Clone, Copy, Debug)]

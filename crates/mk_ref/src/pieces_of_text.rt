@@ -3,7 +3,7 @@ ghost use Rattle.std.specs.Prelude.{◌≡◌, ◌<◌, ◌≤◌, ◌+◌, ◌^
 ghost use Rattle.refusals.specs.Refused.{refused};
 ghost use Rattle.std.specs.Option.{ForSome};
 ghost use Rattle.mk_ref.specs.declared.pieces_of_text.PiecesFault.TheVariants as faults;
-ghost use Rattle.mk_ref.specs.Units.{opening_of, units_of, left_of};
+ghost use Rattle.mk_ref.specs.Atoms.{opening_of, atoms_of, left_of};
 ghost use Rattle.mk_ref.specs.Pieces.{pieces_of};
 ghost use Rattle.mk_ref.specs.Places.{piece_in_text, span_of_piece, FollowFrom, IsPieceIn, IsFaultOf};
 ghost use Rattle.mk_ref.specs.Firsts.{literal_at, reference_at, BeginsAt};
@@ -90,7 +90,7 @@ impl Piece {
 /// marks of references that are one inside another.
 pub fn pieces(alloc: Global, text: &str) -> Result<Vec<Piece>, PiecesFault>
     ensures pieces { IfOk result (λ found. map (piece_in_text text.now) found.items
-        ≡ pieces_of (units_of text.now)) }
+        ≡ pieces_of (atoms_of text.now)) }
     ensures whole { IfOk result (λ found. left_of text.now ≡ []) }
     ensures order { IfOk result (λ found. FollowFrom 0 found.items (length text.now)) }
     ensures places { IfOk result (λ found. All (IsPieceIn text.now) found.items) }

@@ -2,7 +2,7 @@
 use Rattle.std.proofs.Common.{◌≡◌, ◌∙◌, ℕ, List, [], Option, Some, None, Err, refl, ap, subst, rules}
 use Rattle.mk_base.specs.declared.faults.FaultKind.TheVariants as kinds
 use Rattle.mk_base.specs.Outcome.{after}
-use Rattle.mk_ref.specs.Units.{left_of}
+use Rattle.mk_ref.specs.Atoms.{left_of}
 use Rattle.mk_ref.specs.Outside.{outside}
 use Rattle.mk_files.specs.Questions.{Account}
 use Rattle.mk_cond_tree.specs.Trees.{OrTree}

@@ -1,10 +1,10 @@
 -- A reference among the pieces is one of the text.
 use Rattle.std.proofs.Common.{◌≡◌, ◌≢◌, ◌∙◌, ℕ, List, [], ◌∷◌, ◌||◌, map, true, refl, sym, ap}
 use Rattle.std.specs.List.{list_any}
-use Rattle.mk_ref.specs.UnitFacts.{IsFaultOf-left}
+use Rattle.mk_ref.specs.AtomFacts.{IsFaultOf-left}
 use Rattle.mk_ref.specs.declared.pieces_of_text.Piece.{Piece}
 use Rattle.mk_ref.specs.declared.pieces_of_text.Piece.TheVariants as v
-use Rattle.mk_ref.specs.Units.{units_of, left_of}
+use Rattle.mk_ref.specs.Atoms.{atoms_of, left_of}
 use Rattle.mk_ref.specs.Pieces.{TextPiece, pieces_of}
 use Rattle.mk_ref.specs.Places.{piece_in_text}
 use Rattle.mk_cond.specs.Leaves.{is_reference, is_reference_piece, refers, has_reference}
@@ -19,9 +19,9 @@ same_pieces : (text : List ℕ) (found : List Piece) → list_any is_reference_p
 same_pieces text [] = refl
 same_pieces text (piece ∷ found) = ap (λ b. b || list_any is_reference_piece found) (same_piece text piece) ∙ ap (λ b. is_reference (piece_in_text text piece) || b) (same_pieces text found)
 
-whole : (text : List ℕ) (found : List TextPiece) → left_of text ≡ [] → found ≡ pieces_of (units_of text) → list_any is_reference found ≡ has_reference text
+whole : (text : List ℕ) (found : List TextPiece) → left_of text ≡ [] → found ≡ pieces_of (atoms_of text) → list_any is_reference found ≡ has_reference text
 unfolding has_reference
-whole text found ends are = ap (list_any is_reference) are ∙ ap (λ left. refers left (pieces_of (units_of text))) (sym ends)
+whole text found ends are = ap (list_any is_reference) are ∙ ap (λ left. refers left (pieces_of (atoms_of text))) (sym ends)
 
 some_left : (left : List ℕ) (found : List TextPiece) → left ≢ [] → true ≡ refers left found
 some_left [] found some = absurd (some refl)
@@ -29,7 +29,7 @@ some_left (b ∷ left) found some = refl
 
 cut_short : (text : List ℕ) → left_of text ≢ [] → true ≡ has_reference text
 unfolding has_reference
-cut_short text some = some_left (left_of text) (pieces_of (units_of text)) some
+cut_short text some = some_left (left_of text) (pieces_of (atoms_of text)) some
 
 pub returns-in-Ok : goal.returns-in-Ok
 returns-in-Ok c =

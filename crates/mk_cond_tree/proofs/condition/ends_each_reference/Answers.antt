@@ -1,6 +1,6 @@
 use Rattle.std.proofs.Common.{◌≡◌, ◌≢◌, false, [], Result, IfOk, Bool, sym, subst}
 use Rattle.std.specs.declared.alloc.AllocError.{AllocError}
-use Rattle.mk_ref.specs.Units.{left_of}
+use Rattle.mk_ref.specs.Atoms.{left_of}
 use Rattle.mk_ref.specs.Places.{IsFaultOf}
 use Rattle.mk_cond_tree.proofs.Found.{unclosed-left}
 use Rattle.mk_cond_tree.proofs.condition.ends_each_reference.Goals as goal

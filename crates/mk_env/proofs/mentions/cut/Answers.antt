@@ -1,5 +1,5 @@
 use Rattle.std.proofs.Common.{refl}
-use Rattle.mk_ref.specs.UnitFacts.{IsFaultOf-left}
+use Rattle.mk_ref.specs.AtomFacts.{IsFaultOf-left}
 use Rattle.mk_env.proofs.mentions.cut.Goals as goal
 
 pub returns-in-Err-Unclosed-clause-err : goal.returns-in-Err-Unclosed-clause-err

@@ -4,7 +4,7 @@ use Rattle.std.proofs.lemmas.Str.{IsCharBoundary-start}
 use Rattle.std.proofs.lemmas.List.Elements.{All-nil}
 use Rattle.mk_base.specs.Meter.{IsLater-on}
 use Rattle.mk_base.specs.Stops.{GivesPurely}
-use Rattle.mk_ref.specs.Units.{units_of}
+use Rattle.mk_ref.specs.Atoms.{atoms_of}
 use Rattle.mk_loop.specs.Scopes.{words_in}
 use Rattle.mk_loop.specs.Places.{Outermost, HasAsciiMark, IsKeptReference, made_or_line}
 use Rattle.mk_loop.proofs.WholeLine.{stands-first, goes-first, goes-last}
@@ -28,7 +28,7 @@ loop-alloc-init c =
         kept = λ _. subst (All IsKeptReference) (sym new.around) (All-nil IsKeptReference);
       };
       paid = (λ _. refl, λ some. absurd (some new.copied));
-      left = Outermost (units_of line);
+      left = Outermost (atoms_of line);
       is_left = stands-first line pass c.in_ok-check_closed.ensures.whole new.around new.at;
       goes = goes-first (words_in c.args.loops.now) c.args.variables.now line pass c.args.budget.now c.in_ok-check_closed.ensures.whole new.joined new.copied new.at;
     }

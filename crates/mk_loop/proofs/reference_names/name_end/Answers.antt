@@ -1,7 +1,7 @@
 use Rattle.std.proofs.Common.{◌+◌, Some, sym, ap, ◌∙◌, inl, inr, refl}
 use Rattle.std.proofs.lemmas.Bool.{ne_eqb}
-use Rattle.mk_ref.specs.Units.{Byte, EscapedDollar}
-use Rattle.mk_loop.proofs.UnitPlaces.{byte-at-place, pair-at-place}
+use Rattle.mk_ref.specs.Atoms.{Byte, EscapedDollar}
+use Rattle.mk_loop.proofs.AtomPlaces.{byte-at-place, pair-at-place}
 use Rattle.mk_loop.proofs.NameSteps.{name-more, name-ends, name-letter, name-marked, name-open}
 use Rattle.mk_loop.proofs.reference_names.name_end.Goals as goal
 use Rattle.mk_loop.proofs.reference_names.name_end.Goals.{then-bytes-at-via-then-bytes-at, then-bytes-at-via-else-bytes-at+then-bytes-at-eq58}

@@ -1,7 +1,7 @@
 use Rattle.std.proofs.Common.{◌≡◌, ◌+◌, ◌++◌, Some, map, drop, sym, ap, ◌∙◌, arith, append_assoc, append-nil}
 use Rattle.std.specs.List.{flat_map}
 use Rattle.std.proofs.lemmas.Result.{err_from_is_err_and}
-use Rattle.mk_ref.specs.Units.{units_of}
+use Rattle.mk_ref.specs.Atoms.{atoms_of}
 use Rattle.mk_ref.specs.Pieces.{pieces_of}
 use Rattle.mk_ref.specs.Places.{piece_in_text}
 use Rattle.mk_mods.specs.Marks.{marks_of, marks_if_whole, piece_marks}
@@ -25,8 +25,8 @@ returns-clause-ok c =
     let text = c.args.text.now in
     let found = map (piece_in_text text) c.deref-piece-items.result.now in
     let made = map shown_mark c.loop-piece.marks.items in
-    let whole : found ≡ pieces_of (units_of text) = ap (map (piece_in_text text)) c.deref-piece-items.ensures.value ∙ c.in_ok-pieces.ensures.pieces in
-    ap (λ left. marks_if_whole left (flat_map piece_marks (pieces_of (units_of text)))) c.in_ok-pieces.ensures.whole
+    let whole : found ≡ pieces_of (atoms_of text) = ap (map (piece_in_text text)) c.deref-piece-items.ensures.value ∙ c.in_ok-pieces.ensures.pieces in
+    ap (λ left. marks_if_whole left (flat_map piece_marks (pieces_of (atoms_of text)))) c.in_ok-pieces.ensures.whole
     ∙ ap (λ pieces. Some (flat_map piece_marks pieces)) (sym whole)
     ∙ ap Some
     (sym c.loop-piece.invariant

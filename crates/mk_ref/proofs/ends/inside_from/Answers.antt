@@ -1,7 +1,7 @@
 use Rattle.std.proofs.Common.{◌≡◌, ℕ, true, false, not, cond, Option, Some, None, get_or, refl, sym, ap, subst, ◌∙◌}
 use Rattle.std.specs.Prelude.{is_some}
 use Rattle.std.proofs.lemmas.Bool.{eq-eqb, ne_eqb}
-use Rattle.mk_ref.specs.Ends.{UnitEndsAt}
+use Rattle.mk_ref.specs.Ends.{AtomEndsAt}
 use Rattle.mk_ref.proofs.InsideSteps.{InsideSoFar, colon_after, inside-more, inside-close, inside-broken, inside-end}
 use Rattle.mk_ref.proofs.ends.inside_from.Goals as goal
 use Rattle.mk_ref.proofs.ends.inside_from.Goals.{then-bytes-at-eq58+then-is_none, else-bytes-at-eq58, else-bytes-at-eq58-via-then-bytes-at-eq58+else-is_none, else-bytes-at-eq58-via-else-bytes-at-eq58}
@@ -13,7 +13,7 @@ returns-then-bytes-at c =
 pub returns-in-None : goal.returns-in-None
 returns-in-None c =
     inside-broken c.args.bytes.now c.args.start c.args.closing c.loop-at.colon c.loop-at.at c.loop-at.invariant c.loop-at-test.true c.if-bytes-at.false
-    (subst (UnitEndsAt c.args.bytes.now c.loop-at.at) c.in-None.is c.in_ok-behind.ensures)
+    (subst (AtomEndsAt c.args.bytes.now c.loop-at.at) c.in-None.is c.in_ok-behind.ensures)
 
 -- the first colon so far, at this byte
 first_here : (colon : Option ℕ) (b at : ℕ) → is_some colon ≡ false → b ≡ 58 → Some at ≡ colon_after colon b at
@@ -37,7 +37,7 @@ loop-at-preserved c =
     let behind = c.in-Some.behind in
     let b = get_or text at 0 in
     let more = inside-more text c.args.start c.args.closing c.loop-at.colon at behind c.loop-at.invariant c.loop-at-test.true c.if-bytes-at.false
-    (subst (UnitEndsAt text at) c.in-Some.is c.in_ok-behind.ensures) in
+    (subst (AtomEndsAt text at) c.in-Some.is c.in_ok-behind.ensures) in
     let P : Option ℕ → Type 0 = λ o. InsideSoFar text c.args.start c.args.closing o behind in
     elim c.if-bytes-at-eq58.branch [
       | then-bytes-at-eq58+then-is_none w ↦

@@ -1,5 +1,5 @@
-use Rattle.mk_ref.proofs.PartSteps.{units-whole}
+use Rattle.mk_ref.proofs.PartSteps.{atoms-whole}
 use Rattle.mk_ref.proofs.laws.parts_are_whole.Goals as goal
 
 pub returns : goal.returns
-returns c = units-whole
+returns c = atoms-whole

@@ -1,4 +1,4 @@
-use Rattle.mk_ref.proofs.UnitSteps.{up_to-cons}
+use Rattle.mk_ref.proofs.AtomSteps.{up_to-cons}
 use Rattle.mk_ref.proofs.laws.read_goes_on.Goals as goal
 
 pub returns : goal.returns

@@ -1,5 +1,5 @@
-use Rattle.mk_ref.proofs.UnitSteps.{units-together}
+use Rattle.mk_ref.proofs.AtomSteps.{atoms-together}
 use Rattle.mk_ref.proofs.laws.references_are_put_together.Goals as goal
 
 pub returns : goal.returns
-returns c = units-together
+returns c = atoms-together

@@ -1,7 +1,7 @@
 use Rattle.std.proofs.Common.{◌≡◌, ℕ, ◌-◌, ◌<◌, List, ◌++◌, map, take, arith, subst, sym, ap, ◌∙◌, lit<}
 use Rattle.std.specs.List.{flat_map, slice_range}
 use Rattle.std.proofs.lemmas.Str.{IsCharBoundary-before_ascii}
-use Rattle.mk_ref.specs.Units.{units_of}
+use Rattle.mk_ref.specs.Atoms.{atoms_of}
 use Rattle.mk_ref.specs.Pieces.{pieces_of}
 use Rattle.mk_ref.specs.Places.{piece_in_text, IsFaultOf}
 use Rattle.mk_ref.specs.Outside.{dollars, covered_piece}
@@ -34,4 +34,4 @@ returns-in_ok-push_dollars-in-Ok c =
     c.in_ok-push_dollars-in-Ok.ensures ∙ ap (λ l. l ++ dollars c.range_from.result.now) c.in_ok-bytes-in-Ok.ensures
     ∙ ap (λ l. flat_map covered_piece found ++ dollars l) c.range_from.ensures.value
     ∙ outside-unclosed text c.args.at found c.requires
-    (ap (map (piece_in_text front)) c.as_slice.ensures.value ∙ c.in-Ok.ensures.pieces ∙ ap (λ l. pieces_of (units_of l)) (from_start text front c.args.at c.range-front.ensures.value))
+    (ap (map (piece_in_text front)) c.as_slice.ensures.value ∙ c.in-Ok.ensures.pieces ∙ ap (λ l. pieces_of (atoms_of l)) (from_start text front c.args.at c.range-front.ensures.value))

@@ -1,5 +1,5 @@
 use Rattle.std.proofs.Common.{◌<◌, ◌≤◌, length, drop, [], ◌∷◌, ◌++◌, sym, ap, ◌∙◌, subst}
-use Rattle.mk_ref.specs.Units.{opening_of}
+use Rattle.mk_ref.specs.Atoms.{opening_of}
 use Rattle.mk_ref.specs.Firsts.{BeginsAt, literal_at}
 use Rattle.mk_ref.proofs.PiecesSoFar.{CutSoFar, so_far-none, so_far-byte, so_far-piece, AllCut, all-cut, unclosed}
 use Rattle.mk_ref.proofs.pieces_of_text.pieces.Goals as goal

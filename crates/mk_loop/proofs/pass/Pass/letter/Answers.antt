@@ -1,12 +1,12 @@
 use Rattle.std.proofs.Common.{◌≡◌, ◌+◌, take, drop, Some, None, refl, ap, sym, subst, ◌∙◌, arith, Ok, IfOk}
 use Rattle.std.proofs.lemmas.Result.{err_from_is_err_and}
 use Rattle.mk_base.specs.declared.stops.PureStop.TheVariants as pure
-use Rattle.mk_ref.specs.Units.{Reference}
+use Rattle.mk_ref.specs.Atoms.{Reference}
 use Rattle.mk_loop.specs.LoopWords.{word_named}
 use Rattle.mk_loop.specs.BodyLine.{as_written, put_reference, stays, put}
 use Rattle.mk_loop.specs.Scopes.{words_in}
 use Rattle.mk_loop.specs.Places.{ContinuesPass}
-use Rattle.mk_loop.proofs.UnitPlaces.{letter-at-place}
+use Rattle.mk_loop.proofs.AtomPlaces.{letter-at-place}
 use Rattle.mk_loop.proofs.Steps.{stays-letter}
 use Rattle.mk_loop.proofs.PassSteps.{letter-at, letter-word, begin, pass-on, pass-put, pass-unpaid, put-placed}
 use Rattle.mk_loop.proofs.Paying.{same-paid, put-paid}

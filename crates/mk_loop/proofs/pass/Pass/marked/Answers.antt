@@ -2,7 +2,7 @@ use Rattle.std.proofs.Common.{◌+◌, drop, Some, None, ap, sym, subst, ◌∙�
 use Rattle.std.proofs.lemmas.Result.{err_from_is_err_and}
 use Rattle.mk_base.specs.declared.stops.PureStop.TheVariants as pure
 use Rattle.mk_ref.specs.declared.opening.Opening.TheVariants.{Marked}
-use Rattle.mk_ref.specs.Units.{before_colon}
+use Rattle.mk_ref.specs.Atoms.{before_colon}
 use Rattle.mk_ref.proofs.PieceSteps.{may_cut}
 use Rattle.mk_loop.specs.Scopes.{words_in}
 use Rattle.mk_loop.specs.Places.{EndsName}
@@ -25,7 +25,7 @@ returns-in_default-clause-goes c = λ left stands.
     let ends : EndsName line start c.args.mark None =
     subst (EndsName line start c.args.mark) c.in_default.is (subst (λ l. EndsName l start c.args.mark c.name_end.result) c.as_bytes-bytes.ensures.value c.name_end.ensures) in
     pass-keep words c.args.body.variables.now line c.args.self c.in_ok-keep.field-0 c.args.mark left c.args.budget.now c.requires.placed c.requires.room c.requires.opens c.requires.stays
-    (λ units rest read alone. named-none words (before_colon units) alone (ends units rest read))
+    (λ atoms rest read alone. named-none words (before_colon atoms) alone (ends atoms rest read))
     k.joined k.around k.copied k.at stands
 
 pub range-requires-clause-start_boundary : goal.range-requires-clause-start_boundary
@@ -45,7 +45,7 @@ returns-in_default-word_in-clause-goes c = λ left stands.
     let start = c.args.self.at + 2 in
     let ends : EndsName line start c.args.mark (Some c.in-Some.end) = subst (λ l. EndsName l start c.args.mark (Some c.in-Some.end)) c.as_bytes-bytes.ensures.value c.in-Some.ensures in
     pass-keep words c.args.body.variables.now line c.args.self c.in_ok-keep-2.field-0 c.args.mark left c.args.budget.now c.requires.placed c.requires.room c.requires.opens c.requires.stays
-    (λ units rest read alone. name-word words line start c.args.mark c.in-Some.end units rest c.range.result.now (ends.3 units rest read) alone c.range.ensures.value ∙ sym c.in_default-word_in.ensures)
+    (λ atoms rest read alone. name-word words line start c.args.mark c.in-Some.end atoms rest c.range.result.now (ends.3 atoms rest read) alone c.range.ensures.value ∙ sym c.in_default-word_in.ensures)
     k.joined k.around k.copied k.at stands
 
 pub returns-in_err-pay-clause-goes : goal.returns-in_err-pay-clause-goes

@@ -1,8 +1,8 @@
 use Rattle.std.proofs.Common.{◌+◌, ◌≤◌, length, Some, Ok, drop, refl, ap, sym, subst, ◌∙◌, get_or}
-use Rattle.mk_ref.specs.Units.{Byte, EscapedDollar, opening_of}
+use Rattle.mk_ref.specs.Atoms.{Byte, EscapedDollar, opening_of}
 use Rattle.mk_loop.specs.Scopes.{words_in}
 use Rattle.mk_loop.specs.Places.{ContinuesPass, closes}
-use Rattle.mk_loop.proofs.UnitPlaces.{byte-at-place, pair-at-place}
+use Rattle.mk_loop.proofs.AtomPlaces.{byte-at-place, pair-at-place}
 use Rattle.mk_loop.proofs.PassSteps.{pass-on}
 use Rattle.mk_loop.proofs.Paying.{same-paid}
 use Rattle.mk_loop.proofs.pass.Pass.step.Goals as goal

@@ -1,4 +1,4 @@
--- Facts about the units of a text that proofs above need.
+-- Facts about the atoms of a text that proofs above need.
 use Rattle.std.proofs.Common.{◌≡◌, ◌≢◌, ◌∙◌, refl, sym, ap, subst, inl, inr, arith, append_assoc}
 use Rattle.std.proofs.Common.{ℕ, List, [], ◌∷◌, ◌++◌, length, option_map}
 use Rattle.std.proofs.lemmas.Bool.Decides.{eqb_tells}
@@ -8,21 +8,21 @@ use Rattle.mk_ref.specs.declared.pieces_of_text.PiecesFault.{PiecesFault}
 use Rattle.mk_ref.specs.declared.pieces_of_text.PiecesFault.TheVariants as faults
 use Rattle.mk_ref.specs.Laws.{with_colon}
 use Rattle.mk_ref.specs.Places.{IsUnclosedAt, IsFaultOf}
-use Rattle.mk_ref.specs.Units.{TextUnit, Byte, EscapedDollar, Reference, sources, before_colon, following_colon, left_of}
+use Rattle.mk_ref.specs.Atoms.{TextAtom, Byte, EscapedDollar, Reference, sources, before_colon, following_colon, left_of}
 
--- the name and the modifiers in a reference, put together with the colon, are what its units are written as
-pub around_colon : (units : List TextUnit)
-    → sources (before_colon units) ++ with_colon (option_map sources (following_colon units)) ≡ sources units
+-- the name and the modifiers in a reference, put together with the colon, are what its atoms are written as
+pub around_colon : (atoms : List TextAtom)
+    → sources (before_colon atoms) ++ with_colon (option_map sources (following_colon atoms)) ≡ sources atoms
 around_colon [] = refl
-around_colon (Byte b ∷ units) =
+around_colon (Byte b ∷ atoms) =
     elim (eqb_tells b 58) [
-      | inl colon ↦ rw colon.0 (ap (λ n. n ∷ sources units) (sym colon.1))
-      | inr other ↦ rw other.0 (ap (λ l. b ∷ l) (around_colon units))
+      | inl colon ↦ rw colon.0 (ap (λ n. n ∷ sources atoms) (sym colon.1))
+      | inr other ↦ rw other.0 (ap (λ l. b ∷ l) (around_colon atoms))
     ]
-around_colon (EscapedDollar ∷ units) = ap (λ l. dollar ∷ dollar ∷ l) (around_colon units)
-around_colon (Reference written name modifiers ∷ units) =
-    append_assoc written (sources (before_colon units)) (with_colon (option_map sources (following_colon units)))
-    ∙ ap (λ l. written ++ l) (around_colon units)
+around_colon (EscapedDollar ∷ atoms) = ap (λ l. dollar ∷ dollar ∷ l) (around_colon atoms)
+around_colon (Reference written name modifiers ∷ atoms) =
+    append_assoc written (sources (before_colon atoms)) (with_colon (option_map sources (following_colon atoms)))
+    ∙ ap (λ l. written ++ l) (around_colon atoms)
 
 -- a text in which a reference doesn't end has something left
 pub IsFaultOf-left : (text : List ℕ) (fault : PiecesFault) (at : ℕ) → IsFaultOf text fault → fault ≡ faults.Unclosed at → left_of text ≢ []

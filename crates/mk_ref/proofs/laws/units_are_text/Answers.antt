@@ -1,5 +1,0 @@
-use Rattle.mk_ref.proofs.UnitSteps.{units-text}
-use Rattle.mk_ref.proofs.laws.units_are_text.Goals as goal
-
-pub returns : goal.returns
-returns c = units-text
