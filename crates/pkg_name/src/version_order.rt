@@ -85,7 +85,7 @@ fn final_digits(text: &[u8]) -> usize
     start
 }
 
-/// The number in a version that at most 18 digits write; `None` if there are no digits.
+/// The number that at most 18 digits of a key write, by which versions are put in order; `None` if there are no digits.
 fn number(digits: &[u8]) -> Option<u64>
     requires digits { IsTrue (list_all is_ascii_digit digits.now) }
     requires few { length digits.now ≤ 18 }

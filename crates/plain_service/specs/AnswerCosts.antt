@@ -1,6 +1,6 @@
 -- What the answer to a request rests on: which makefiles are evaluated for it, and what that costs.
 use Rattle.std.specs.Prelude.{◌≢◌, ℕ, ◌+◌, ◌*◌, ◌/◌, List, [], AllPairs, length, Option, Some, None, option_map}
-use Rattle.std.specs.Prelude.{option_to_list, Result, Ok, Err}
+use Rattle.std.specs.Prelude.{option_to_list, Result, Ok, Err, unwrap_or}
 use Rattle.turn_amounts.specs.declared.TheConstants.{MOST_CHECKS, TURN_UNITS}
 use Rattle.mk_paths.specs.Place.{place}
 use Rattle.mk_paths.specs.SearchPath.{IsSearchPath}
@@ -24,7 +24,6 @@ use Rattle.plain_service.specs.declared.port_routes.PortQuestion.{PortQuestion}
 use Rattle.plain_service.specs.declared.port_routes.PortQuestion.TheVariants.{Variable, Record}
 use Rattle.plain_service.specs.Requests.{PlainRequest}
 use Rattle.plain_service.specs.Questions.{question_of}
-use Rattle.plain_service.specs.Variables.{VariableValue}
 
 -- the makefile of a package path with the path's flavors, if it is there
 abbrev pub pair_of : World → PathValue → Option Pair
@@ -43,59 +42,27 @@ rests_for world (OfFile asked) = []
 rests_for world (OfPort asked) = option_to_list (pair_of world (path_asked asked))
 rests_for world (OfIndex asked) = pairs_at world (needed_paths world)
 
--- the units of an evaluation, and then those of a variable's value
-abbrev pub value_cost_after : List ℕ → List ℕ → Result Evaluated Failed → ℕ
-value_cost_after makefile name (Ok evaluated) = with_cost evaluated.cost (value_units (value_of_variable evaluated.env makefile name))
-value_cost_after makefile name (Err failed) = failed.cost
+-- the units of an evaluated makefile of this kind, and then those of the record if it describes a port
+abbrev pub with_record : Kind → ℕ → ℕ → ℕ
+with_record kinds.Port spent more = with_cost spent more
+with_record kinds.List spent more = spent
+with_record kinds.Other spent more = spent
 
--- the same of an evaluated makefile
-abbrev pub told_value_cost : Evaluated → List ℕ → List ℕ → ℕ
-told_value_cost evaluated makefile name = value_cost_after makefile name (Ok evaluated)
-
--- the units of a makefile of this kind, and then those of the record if it describes a port
-abbrev pub record_cost_by : Kind → ℕ → ℕ → ℕ
-record_cost_by kinds.Port spent more = with_cost spent more
-record_cost_by kinds.List spent more = spent
-record_cost_by kinds.Other spent more = spent
-
-abbrev pub record_cost_after : List ℕ → Result Evaluated Failed → ℕ
-record_cost_after makefile (Ok evaluated) = record_cost_by evaluated.kind evaluated.cost (record_units (record_of evaluated.env makefile))
-record_cost_after makefile (Err failed) = failed.cost
-
--- the units of an evaluated makefile that describes a port, and then those of the record
-abbrev pub described_cost : Evaluated → List ℕ → ℕ
-described_cost evaluated makefile = with_cost evaluated.cost (record_units (record_of evaluated.env makefile))
-
--- what is found at a makefile costs nothing if the makefile isn't there
-abbrev pub cost_if_there : Option ℕ → ℕ
-cost_if_there None = 0
-cost_if_there (Some cost) = cost
-
--- the units of a variable, of a port with this makefile
-abbrev pub value_cost_of : World → VariableValue → List ℕ → ℕ
-value_cost_of world asked makefile = value_cost_after makefile asked.name (means world makefile asked.path.flavors)
-
--- the units of a variable of a port
-abbrev pub value_cost_at : World → VariableValue → ℕ
-value_cost_at world asked = cost_if_there (option_map (value_cost_of world asked) (place world asked.path.directory))
-
--- the units of a port's record, if this is its makefile
-abbrev pub record_cost_of : World → PathValue → List ℕ → ℕ
-record_cost_of world path makefile = record_cost_after makefile (means world makefile path.flavors)
-
--- the units of a port's record
-abbrev pub record_cost_at : World → PathValue → ℕ
-record_cost_at world path = cost_if_there (option_map (record_cost_of world path) (place world path.directory))
-
--- the units of what a question asks of a port, after the evaluation of the port's makefile, with those of this
+-- the units of an evaluation, and then those of what a question asks of the port: of the value, or of the record
 abbrev pub cost_after : PortQuestion → List ℕ → Result Evaluated Failed → ℕ
-cost_after (Variable asked) makefile outcome = value_cost_after makefile asked.name outcome
-cost_after (Record path) makefile outcome = record_cost_after makefile outcome
+cost_after question makefile (Err failed) = failed.cost
+cost_after (Variable asked) makefile (Ok evaluated) =
+    with_cost evaluated.cost (value_units (value_of_variable evaluated.env makefile asked.name))
+cost_after (Record path) makefile (Ok evaluated) =
+    with_record evaluated.kind evaluated.cost (record_units (record_of evaluated.env makefile))
 
--- the same over a world
+-- the same over a world, of a port with this makefile
+abbrev pub cost_by : World → PortQuestion → List ℕ → ℕ
+cost_by world question makefile = cost_after question makefile (means world makefile (path_asked question).flavors)
+
+-- the same of the port's own makefile; nothing if that isn't there
 abbrev pub port_cost_at : World → PortQuestion → ℕ
-port_cost_at world (Variable asked) = value_cost_at world asked
-port_cost_at world (Record path) = record_cost_at world path
+port_cost_at world question = unwrap_or (option_map (cost_by world question) (place world (path_asked question).directory)) 0
 
 -- The units of all evaluations on which the answer to a question rests, with those of the records, of the SUBDIRs
 -- and of the value.

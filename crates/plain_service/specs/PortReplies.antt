@@ -36,10 +36,6 @@ variable_at world name flavors None = no_port
 abbrev pub variable_of : World → List ℕ → PathValue → ReplyMessage
 variable_of world name path = variable_at world name path.flavors (place world path.directory)
 
--- the reply with the value of a variable of an evaluated makefile
-abbrev pub value_told : Evaluated → List ℕ → List ℕ → ReplyMessage
-value_told evaluated makefile name = value_reply (value_after makefile name (Ok evaluated))
-
 -- the record of a makefile of this kind, if it describes a port
 abbrev pub record_by : Kind → Result Recorded Failed → Result (Option Recorded) Failed
 record_by kinds.Port (Ok recorded) = Ok (Some recorded)
@@ -62,10 +58,6 @@ abbrev pub port_reply : PathValue → Result (Option Recorded) Failed → ReplyM
 port_reply path (Ok (Some recorded)) = port_told path recorded.port
 port_reply path (Ok None) = no_port
 port_reply path (Err failed) = faulty failed.fault
-
--- the reply with the record of an evaluated makefile, if it describes a port
-abbrev pub record_told : Evaluated → List ℕ → PathValue → ReplyMessage
-record_told evaluated makefile path = port_reply path (record_after makefile (Ok evaluated))
 
 -- the reply with the record of an evaluated makefile that describes a port
 abbrev pub described : Evaluated → List ℕ → PathValue → ReplyMessage

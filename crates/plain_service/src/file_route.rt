@@ -75,7 +75,7 @@ fn store_file(alloc: Global, name: Name, body: &[u8]) -> Result<Question, AllocE
 }
 
 impl FileQuestion {
-    /// The name of the file that the question is about.
+    /// The name of the file that is asked for on the route of files.
     pub fn name(&self) -> &Name
         ensures { result.now ≡ file_asked self.now }
     {

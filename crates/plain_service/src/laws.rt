@@ -2,7 +2,7 @@
 ghost use Rattle.plain_service.specs.Languages.{OthersKeepTheProfile};
 ghost use Rattle.plain_service.specs.Plain.{NeverAnswers503};
 ghost use Rattle.plain_service.specs.AnswerCosts.{RestsOnEachOnce};
-ghost use Rattle.plain_service.specs.Spent.{ChecksNoMore, SpendsAllUnchecked, SpendsNoMore};
+ghost use Rattle.plain_service.specs.Spent.{StayWithin, TakeAllUnchecked};
 
 /// The plain service never answers 503. A service over many tenants answers that if it fails.
 pub fn never_answers_503()
@@ -13,9 +13,8 @@ pub fn never_answers_503()
 /// are checked for each makefile on which its answer rests. If one makefile at most is needed and no answer
 /// is checked, all these units are spent.
 pub fn spending_is_bounded()
-    ensures within { SpendsNoMore }
-    ensures few { ChecksNoMore }
-    ensures whole { SpendsAllUnchecked }
+    ensures within { StayWithin }
+    ensures whole { TakeAllUnchecked }
 {}
 
 /// A request to any other route than `/v1/profile` leaves the profile of the tenant's world.

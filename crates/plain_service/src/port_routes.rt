@@ -1,11 +1,13 @@
 //! The routes about one port, `/v1/var` and `/v1/port`, which are answered by the evaluation of its makefile.
 ghost use Rattle.std.specs.Prelude.{◌≡◌, Ok, string_bytes};
 ghost use Rattle.mk_eval.specs.declared.outcome.Kind.{Kind};
+ghost use Rattle.port_rules.specs.Records.{record_of, record_units};
 ghost use Rattle.plain_service.specs.Answers.{reply_after};
 ghost use Rattle.plain_service.specs.PortReplies as replies;
 ghost use Rattle.plain_service.specs.Questions as questions;
 ghost use Rattle.plain_service.specs.Replies.{no_port as no_port_reply};
 ghost use Rattle.plain_service.specs.AnswerCosts as costs;
+ghost use Rattle.plain_service.specs.declared.port_routes.PortQuestion.TheVariants as asks;
 ghost use Rattle.plain_service.specs.Subpackages.{has_named as has_named_in};
 ghost use Rattle.plain_service.specs.Outcomes.{IfMade, TellsCost, TellsReply};
 
@@ -88,7 +90,7 @@ impl PortQuestion {
             Err(failed) => return Ok((faulty(alloc, &failed.fault)?, failed.cost)),
         };
         match self {
-            PortQuestion::Variable(asked) => value_reply(alloc, evaluated, makefile, asked.name()),
+            PortQuestion::Variable(asked) => value_reply(alloc, evaluated, makefile, asked),
             PortQuestion::Record(path) => record_reply(alloc, evaluated, makefile, path),
         }
     }
@@ -107,12 +109,12 @@ fn value_reply(
     alloc: Global,
     evaluated: &Evaluated,
     makefile: &Name,
-    name: &str,
+    asked: &VariableQuestion,
 ) -> Result<(Reply, u64), AllocError>
-    ensures reply { TellsReply result (replies.value_told evaluated.now makefile.now name.now) }
-    ensures cost { TellsCost result (costs.told_value_cost evaluated.now makefile.now name.now) }
+    ensures reply { TellsReply result (reply_after (asks.Variable asked.now) makefile.now (Ok evaluated.now)) }
+    ensures cost { TellsCost result (costs.cost_after (asks.Variable asked.now) makefile.now (Ok evaluated.now)) }
 {
-    let (reply, more) = match value(alloc, evaluated, makefile, name) {
+    let (reply, more) = match value(alloc, evaluated, makefile, asked.name()) {
         Ok(Some(known)) => (variable(alloc, Some(known.text()))?, known.cost()),
         Ok(None) => (variable(alloc, None)?, 0),
         Err(PureStop::Fault(failed)) => (faulty(alloc, &failed.fault)?, failed.cost),
@@ -129,16 +131,17 @@ fn record_reply(
     makefile: &Name,
     path: &PkgPath,
 ) -> Result<(Reply, u64), AllocError>
-    ensures reply { TellsReply result (replies.record_told evaluated.now makefile.now path.now) }
-    ensures cost { TellsCost result (costs.record_cost_after makefile.now (Ok evaluated.now)) }
+    ensures reply { TellsReply result (reply_after (asks.Record path.now) makefile.now (Ok evaluated.now)) }
+    ensures cost { TellsCost result (costs.cost_after (asks.Record path.now) makefile.now (Ok evaluated.now)) }
 {
-    match evaluated.kind {
-        Kind::Port => described(alloc, evaluated, makefile, path),
-        Kind::List | Kind::Other => Ok((no_port(alloc)?, evaluated.cost)),
-    }
+    let (reply, more) = match evaluated.kind {
+        Kind::Port => described(alloc, evaluated, makefile, path)?,
+        Kind::List | Kind::Other => return Ok((no_port(alloc)?, evaluated.cost)),
+    };
+    Ok((reply, evaluated.cost.saturating_add(more)))
 }
 
-/// The reply of `/v1/port` with the record of a port, and the units of its evaluation and of the record.
+/// The reply of `/v1/port` with the record of a port, and the units of the record.
 fn described(
     alloc: Global,
     evaluated: &Evaluated,
@@ -146,14 +149,13 @@ fn described(
     path: &PkgPath,
 ) -> Result<(Reply, u64), AllocError>
     ensures reply { TellsReply result (replies.described evaluated.now makefile.now path.now) }
-    ensures cost { TellsCost result (costs.described_cost evaluated.now makefile.now) }
+    ensures cost { TellsCost result (record_units (record_of evaluated.now.env makefile.now)) }
 {
-    let (reply, more) = match record(alloc, evaluated, makefile) {
-        Ok(recorded) => (port_reply(alloc, path, &recorded.port)?, recorded.cost),
-        Err(PureStop::Fault(failed)) => (faulty(alloc, &failed.fault)?, failed.cost),
-        Err(PureStop::Memory(refused)) => return Err(refused.into()),
-    };
-    Ok((reply, evaluated.cost.saturating_add(more)))
+    match record(alloc, evaluated, makefile) {
+        Ok(recorded) => Ok((port_reply(alloc, path, &recorded.port)?, recorded.cost)),
+        Err(PureStop::Fault(failed)) => Ok((faulty(alloc, &failed.fault)?, failed.cost)),
+        Err(PureStop::Memory(refused)) => Err(refused.into()),
+    }
 }
 
 /// The reply of `/v1/port` with a port, which must have the subpackage, if its path names one.

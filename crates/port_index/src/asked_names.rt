@@ -108,7 +108,8 @@ impl AskedNames {
     }
 }
 
-/// Adds a copy of a text to a set of texts, unless it is there. If memory runs out, nothing changes.
+/// Adds a copy of a path to the paths of the rows that asked for a name, unless it is there. If memory runs out, nothing
+/// changes.
 fn insert_copy(alloc: Global, texts: &mut BTreeSet<String>, text: &str) -> Result<(), AllocError>
     ensures ok { OnOk result (NotesText text.now texts.old texts.new) }
     ensures err { OnErr result (texts.new ≡ texts.old) }

@@ -50,7 +50,7 @@ impl KnownIndex {
         root_among(path, &self.paths.listed, &self.rows)
     }
 
-    /// The edges of the port at a path of the index, in the order of its items. Of all rows, it looks at the
+    /// The edges of the port at a path of a known index, in the order of its items. Of all rows, it looks at the
     /// port's own, and at those of the paths that its items name. It fails only if memory runs out.
     pub fn edges_from(&self, alloc: Global, path: &str) -> Result<Vec<RootEdge>, AllocError>
         ensures { GivesAll (λ world. indexed.edges_of world path.now) self.now result }

@@ -1,6 +1,6 @@
 -- What is taken from the evaluation of a port's makefile.
 use Rattle.std.proofs.Common.{◌≡◌, ◌≤◌, ◌<◌, inr, ◌∙◌, ℕ, zero, suc, ◌+◌, ◌-◌, ◌*◌, ◌^◌, min, List, length, Option, Some, Result, Ok, Err, refl, sym, ap, subst, arith}
-use Rattle.std.specs.Prelude.{option_map, option_to_list}
+use Rattle.std.specs.Prelude.{option_map, option_to_list, unwrap_or}
 use Rattle.mk_paths.specs.Place.{place}
 use Rattle.mk_paths.specs.World.{World, FileMap, files_in}
 use Rattle.mk_eval.specs.Meaning.{means}
@@ -19,8 +19,8 @@ use Rattle.turn_amounts.specs.declared.spent.Spent.{Spent}
 use Rattle.plain_service.specs.Answers.{answer_to, reply_after}
 use Rattle.plain_service.specs.Requests.{Answer, reply_alone}
 use Rattle.plain_service.specs.PortReplies.{variable_at, port_at}
-use Rattle.plain_service.specs.AnswerCosts.{pair_of, path_asked, port_cost_at, cost_after, cost_if_there, value_cost_of, record_cost_of, record_cost_by}
-use Rattle.plain_service.specs.Spent.{SpendsFor}
+use Rattle.plain_service.specs.AnswerCosts.{pair_of, path_asked, port_cost_at, cost_after, cost_by, with_record}
+use Rattle.plain_service.specs.Spent.{SpendsFor, StaysWithin}
 use Rattle.ports_http.specs.Messages.{ReplyMessage}
 use Rattle.turn_amounts.specs.declared.TheConstants.{MOST_CHECKS, TURN_UNITS}
 use Rattle.turn_amounts.specs.Spent.{IsUpFrom, total_of}
@@ -36,7 +36,7 @@ use Rattle.plain_service.specs.declared.port_routes.PortQuestion.{PortQuestion}
 use Rattle.plain_service.specs.declared.port_routes.PortQuestion.TheVariants.{Variable, Record}
 use Rattle.question_turns.specs.PortAsk.{IsPortAsk}
 use Rattle.plain_service.specs.declared.questions.Question.TheVariants.{OfPort}
-use Rattle.question_turns.specs.UnderWay.{ActsForValue, IsReplyToQuestion, LeavesOpen, RepliesInTime, StaysWithin}
+use Rattle.question_turns.specs.UnderWay.{ActsForValue, IsReplyToQuestion, LeavesOpen, RepliesInTime}
 
 abbrev pub pair_with : PathValue → List ℕ → Pair
 pair_with path makefile = record { makefile = makefile; flavors = path.flavors }
@@ -51,17 +51,14 @@ answered world (Record path) makefile placed = sym (ap (λ p. reply_alone (port_
 pub spends : (world : World) (question : PortQuestion) (makefile : List ℕ) (spent : Spent) → place world (path_asked question).directory ≡ Some makefile
     → SpendsOnOne (cost_after question makefile (means world makefile (path_asked question).flavors)) (cost_of (means world makefile (path_asked question).flavors)) 1 spent
     → SpendsFor world (OfPort question) spent
-spends world (Variable asked) makefile spent placed is =
-    subst (λ p. SpendsOnOne (cost_if_there (option_map (value_cost_of world asked) p)) (evaluation_cost world (option_map (pair_with asked.path) p))
-    (evaluations_of (option_map (pair_with asked.path) p)) spent) (sym placed) is
-spends world (Record path) makefile spent placed is =
-    subst (λ p. SpendsOnOne (cost_if_there (option_map (record_cost_of world path) p)) (evaluation_cost world (option_map (pair_with path) p))
-    (evaluations_of (option_map (pair_with path) p)) spent) (sym placed) is
+spends world question makefile spent placed is =
+    subst (λ p. SpendsOnOne (unwrap_or (option_map (cost_by world question) p) 0) (evaluation_cost world (option_map (pair_with (path_asked question)) p))
+    (evaluations_of (option_map (pair_with (path_asked question)) p)) spent) (sym placed) is
 
 with_more : (most units cost more : ℕ) → units ≤ most → units ≤ cost → units ≤ min (cost + more) most
 with_more most units cost more small less = omega (arith, small, less)
 
-kind_covers : (kind : Kind) (units cost more : ℕ) → units ≤ 2 ^ 64 - 1 → units ≤ cost → units ≤ record_cost_by kind cost more
+kind_covers : (kind : Kind) (units cost more : ℕ) → units ≤ 2 ^ 64 - 1 → units ≤ cost → units ≤ with_record kind cost more
 kind_covers kinds.Port units cost more small less = with_more (2 ^ 64 - 1) units cost more small less
 kind_covers kinds.List units cost more small less = less
 kind_covers kinds.Other units cost more small less = less
@@ -70,9 +67,8 @@ kind_covers kinds.Other units cost more small less = less
 pub covers : (question : PortQuestion) (makefile : List ℕ) (outcome : Result Evaluated Failed) (units : ℕ) → units ≤ 2 ^ 64 - 1 → units ≤ cost_of outcome
     → units ≤ cost_after question makefile outcome
 covers (Variable asked) makefile (Ok evaluated) units small less = with_more (2 ^ 64 - 1) units evaluated.cost _ small less
-covers (Variable asked) makefile (Err failed) units small less = less
 covers (Record path) makefile (Ok evaluated) units small less = kind_covers evaluated.kind units evaluated.cost _ small less
-covers (Record path) makefile (Err failed) units small less = less
+covers question makefile (Err failed) units small less = less
 
 one_few : (checks : ℕ) → checks ≤ MOST_CHECKS → checks ≤ MOST_CHECKS * 1
 one_few checks few = omega (arith, few)
@@ -81,20 +77,15 @@ one_few checks few = omega (arith, few)
 pub stays : (world : World) (question : PortQuestion) (makefile : List ℕ) (spent : Spent) → place world (path_asked question).directory ≡ Some makefile
     → spent.units ≤ cost_after question makefile (means world makefile (path_asked question).flavors) → spent.checks ≤ MOST_CHECKS
     → StaysWithin world (OfPort question) spent
-stays world (Variable asked) makefile spent placed less few = record {
-  units = subst (λ p. spent.units ≤ cost_if_there (option_map (value_cost_of world asked) p)) (sym placed) less;
-  checks = subst (λ p. ChecksFew (length (option_to_list (option_map (pair_with asked.path) p))) spent.checks) (sym placed) (one_few spent.checks few);
-}
-stays world (Record path) makefile spent placed less few = record {
-  units = subst (λ p. spent.units ≤ cost_if_there (option_map (record_cost_of world path) p)) (sym placed) less;
-  checks = subst (λ p. ChecksFew (length (option_to_list (option_map (pair_with path) p))) spent.checks) (sym placed) (one_few spent.checks few);
+stays world question makefile spent placed less few = record {
+  units = subst (λ p. spent.units ≤ unwrap_or (option_map (cost_by world question) p) 0) (sym placed) less;
+  checks = subst (λ p. ChecksFew (length (option_to_list (option_map (pair_with (path_asked question)) p))) spent.checks) (sym placed) (one_few spent.checks few);
 }
 
 -- what is asked costs this, if this is its makefile
 port_cost : (world : World) (question : PortQuestion) (makefile : List ℕ) → place world (path_asked question).directory ≡ Some makefile
     → port_cost_at world question ≡ cost_after question makefile (means world makefile (path_asked question).flavors)
-port_cost world (Variable asked) makefile placed = ap (λ p. cost_if_there (option_map (value_cost_of world asked) p)) placed
-port_cost world (Record path) makefile placed = ap (λ p. cost_if_there (option_map (record_cost_of world path) p)) placed
+port_cost world question makefile placed = ap (λ p. unwrap_or (option_map (cost_by world question) p) 0) placed
 
 -- and rests on it
 pub pair-there : (world : World) (path : PathValue) (makefile : List ℕ) → place world path.directory ≡ Some makefile → pair_of world path ≡ Some (pair_with path makefile)

@@ -35,7 +35,8 @@ use Rattle.index_store.specs.declared.path_rows.PathRows as rows
 use Rattle.eval_cache.proofs.UseLemmas.{UsesCache-on}
 use Rattle.question_turns.specs.Ports.{LeavesPorts, world_of_ports}
 use Rattle.question_turns.specs.declared.kept_ports.KeptPorts.{KeptPorts}
-use Rattle.question_turns.specs.UnderWay.{IsSpentOnIndex, RefreshesInTime, StaysWithin}
+use Rattle.plain_service.specs.Spent.{StaysWithin}
+use Rattle.question_turns.specs.UnderWay.{IsSpentOnIndex, RefreshesInTime}
 
 abbrev by_bytes : List ℕ → List ℕ → Ordering
 by_bytes = slice_cmp nat_cmp

@@ -1,6 +1,6 @@
 -- How many turns may follow, and what one of them spends.
 use Rattle.std.proofs.Common.{◌≡◌, ◌≤◌, ◌<◌, ◌+◌, ◌-◌, ◌*◌, ◌^◌, min, ℕ, List, length, Some, Result, Ok, Err, IfOk, sym, ap, subst, arith}
-use Rattle.std.specs.Prelude.{option_map, option_to_list}
+use Rattle.std.specs.Prelude.{option_map, option_to_list, unwrap_or}
 use Rattle.mk_base.specs.declared.budget.TheConstants.{UNITS}
 use Rattle.turn_amounts.specs.declared.TheConstants.{MOST_CHECKS, TURN_UNITS}
 use Rattle.mk_paths.specs.Place.{place}
@@ -19,7 +19,8 @@ use Rattle.port_index.specs.PathLaws.{MakefilesAreEvaluated}
 use Rattle.port_index.specs.PathOutcomes.{with_cost}
 use Rattle.turn_amounts.specs.Spent.{no_spending, spent_together, IsUpFrom, total_of, spent_in_all}
 use Rattle.turn_amounts.specs.declared.spent.Spent.{Spent}
-use Rattle.plain_service.specs.AnswerCosts.{path_asked, cost_after, cost_for, cost_if_there, rests_for, record_cost_by, record_cost_of, value_cost_of}
+use Rattle.plain_service.specs.AnswerCosts.{path_asked, cost_after, cost_by, cost_for, rests_for, with_record}
+use Rattle.plain_service.specs.Spent.{StaysWithin}
 use Rattle.plain_service.specs.declared.index_questions.IndexQuestion.{IndexQuestion}
 use Rattle.plain_service.specs.declared.questions.Question.TheVariants.{OfPort, OfIndex}
 use Rattle.plain_service.specs.declared.questions.Question.{Question}
@@ -31,7 +32,6 @@ use Rattle.index_keep.specs.Shown.{ShownRows}
 use Rattle.eval_ask.specs.declared.ask.Asked.{Asked}
 use Rattle.eval_ask.specs.declared.ask.AskTurned.{AskTurned}
 use Rattle.eval_ask.specs.declared.ask.AskTurned.TheVariants.{More, Done}
-use Rattle.question_turns.specs.UnderWay.{StaysWithin}
 use Rattle.question_turns.specs.TurnsLeft.{open_turns, turns_after, turns_of_refresh}
 use Rattle.plain_service.specs.declared.port_routes.PortQuestion.{PortQuestion}
 use Rattle.plain_service.specs.declared.port_routes.PortQuestion.TheVariants.{Variable, Record}
@@ -72,12 +72,9 @@ one_left cost spent = omega arith
 -- the makefile of what is asked is there
 pub some-left : (world : World) (question : PortQuestion) (makefile : List ℕ) (spent : ℕ) → place world (path_asked question).directory ≡ Some makefile
     → 0 < turns_after world (OfPort question) spent
-some-left world (Variable asked) makefile spent placed =
-    subst (λ p. 0 < open_turns (length (option_to_list (option_map (pair_with asked.path) p))) (cost_if_there (option_map (value_cost_of world asked) p)) spent) (sym placed)
-    (one_left (value_cost_of world asked makefile) spent)
-some-left world (Record path) makefile spent placed =
-    subst (λ p. 0 < open_turns (length (option_to_list (option_map (pair_with path) p))) (cost_if_there (option_map (record_cost_of world path) p)) spent) (sym placed)
-    (one_left (record_cost_of world path makefile) spent)
+some-left world question makefile spent placed =
+    subst (λ p. 0 < open_turns (length (option_to_list (option_map (pair_with (path_asked question)) p))) (unwrap_or (option_map (cost_by world question) p) 0) spent) (sym placed)
+    (one_left (cost_by world question makefile) spent)
 
 -- ---- a turn of an evaluation, after a look in the same turn
 
@@ -98,7 +95,7 @@ module _ (before : Spent) (old new : AskTurned) (units : ℕ) (looked : HasLooke
 most_with : (cost more : ℕ) → more ≤ UNITS → with_cost cost more ≤ cost + UNITS
 most_with cost more few = omega (arith, few)
 
-most_by : (kind : Kind) (cost more : ℕ) → more ≤ UNITS → record_cost_by kind cost more ≤ cost + UNITS
+most_by : (kind : Kind) (cost more : ℕ) → more ≤ UNITS → with_record kind cost more ≤ cost + UNITS
 most_by kinds.Port cost more few = most_with cost more few
 most_by kinds.List cost more few = omega arith
 most_by kinds.Other cost more few = omega arith
@@ -107,9 +104,8 @@ most_by kinds.Other cost more few = omega arith
 pub most-asked : CostFew → RecordsCostFew → (question : PortQuestion) (makefile : List ℕ) (outcome : Result Evaluated Failed)
     → cost_after question makefile outcome ≤ cost_of outcome + UNITS
 most-asked few records (Variable asked) makefile (Ok evaluated) = most_with evaluated.cost (value_units (value_of_variable evaluated.env makefile asked.name)) (few.values evaluated.env makefile asked.name)
-most-asked few records (Variable asked) makefile (Err failed) = omega arith
 most-asked few records (Record path) makefile (Ok evaluated) = most_by evaluated.kind evaluated.cost (record_units (record_of evaluated.env makefile)) (records evaluated.env makefile)
-most-asked few records (Record path) makefile (Err failed) = omega arith
+most-asked few records question makefile (Err failed) = omega arith
 
 -- the same in the turn that makes it, which had spent fewer than its units before
 pub few-made : (before : Spent) (asked : Asked) (cost : ℕ) → cost ≤ cost_of asked.evaluation.value.outcome + UNITS

@@ -1,12 +1,11 @@
 -- What is under way for a question, and what a turn makes of it.
-use Rattle.std.specs.Prelude.{◌≡◌, ◌≤◌, ◌+◌, ◌*◌, Bool, true, false, length, [], Option, Some, None}
+use Rattle.std.specs.Prelude.{◌≡◌, ◌≤◌, ◌+◌, ◌*◌, Bool, true, false, [], Option, Some, None}
 use Rattle.turn_amounts.specs.declared.TheConstants.{MOST_CHECKS, TURN_UNITS}
 use Rattle.mk_paths.specs.World.{World}
 use Rattle.ports_http.specs.Messages.{ReplyMessage}
 use Rattle.port_index.specs.Efforts.{cost_over, evaluations_over}
 use Rattle.port_index.specs.Index.{needed_paths}
 use Rattle.turn_amounts.specs.Spent.{no_spending, spent_together, IsUpFrom, total_of}
-use Rattle.port_index.specs.Spent.{ChecksFew}
 use Rattle.turn_amounts.specs.declared.spent.Spent.{Spent}
 use Rattle.plain_service.specs.declared.questions.Question.{Question}
 use Rattle.plain_service.specs.declared.questions.Question.TheVariants.{Settled, OfFile, OfPort, OfIndex}
@@ -14,8 +13,8 @@ use Rattle.plain_service.specs.declared.port_routes.PortQuestion.{PortQuestion}
 use Rattle.plain_service.specs.declared.port_routes.PortQuestion.TheVariants.{Variable, Record}
 use Rattle.plain_service.specs.Answers.{answer_to}
 use Rattle.plain_service.specs.Requests.{Answer, reply_alone}
-use Rattle.plain_service.specs.AnswerCosts.{pair_of, path_asked, port_cost_at, cost_for, rests_for}
-use Rattle.plain_service.specs.Spent.{SpendsFor}
+use Rattle.plain_service.specs.AnswerCosts.{pair_of, path_asked, port_cost_at}
+use Rattle.plain_service.specs.Spent.{SpendsFor, StaysWithin}
 use Rattle.eval_ask.specs.Ask.{EvaluatesInTime, MakesInTime, spent_in}
 use Rattle.index_keep.specs.Turns.{RefreshView, IsWithinLeft, PaysAll, IsRefreshTurn, cost_left, evaluations_left, paths_left, spent_by}
 use Rattle.index_keep.specs.declared.keeper.Refreshed.{Refreshed}
@@ -60,12 +59,6 @@ IsSpentAtStage world refresh spent (Refreshing asked) = IsSpentOnIndex world ref
 -- this is under way over a world, by how far the refresh of the index is
 abbrev pub IsUnderWayOver : World → RefreshView → UnderWay → Type 0
 IsUnderWayOver world refresh under_way = IsSpentAtStage world refresh under_way.spent under_way.stage
-
--- No more units are spent than the answer to a question costs, and few answers are checked for each makefile on which
--- it rests.
-pub record StaysWithin (world : World) (question : Question) (spent : Spent) : Type 0 where
-  pub units : spent.units ≤ cost_for world question
-  pub checks : ChecksFew (length (rests_for world question)) spent.checks
 
 -- a question takes a record from the evaluation of a port's makefile
 abbrev pub is_of_record : PortQuestion → Bool

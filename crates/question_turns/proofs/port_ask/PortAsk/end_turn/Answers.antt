@@ -11,7 +11,7 @@ use Rattle.ports_http.specs.Messages.{ReplyMessage}
 use Rattle.turn_amounts.specs.declared.spent.Spent.{Spent}
 use Rattle.plain_service.specs.Answers.{reply_after}
 use Rattle.plain_service.specs.AnswerCosts.{pair_of, path_asked, cost_after}
-use Rattle.plain_service.specs.Spent.{SpendsFor}
+use Rattle.plain_service.specs.Spent.{SpendsFor, StaysWithin}
 use Rattle.plain_service.specs.declared.port_routes.PortQuestion.{PortQuestion}
 use Rattle.plain_service.specs.declared.port_routes.PortQuestion.TheVariants.{Variable, Record}
 use Rattle.plain_service.specs.declared.questions.Question.TheVariants.{OfPort}
@@ -23,7 +23,7 @@ use Rattle.eval_ask.specs.Ask.{AskingSpends, EvaluatesInTime, HasComeTo, IsAnswe
 use Rattle.eval_ask.specs.declared.ask.Asked.{Asked}
 use Rattle.eval_ask.specs.declared.ask.AskTurned.{AskTurned}
 use Rattle.eval_ask.specs.declared.ask.AskTurned.TheVariants.{Done}
-use Rattle.question_turns.specs.UnderWay.{ActsForValue, IsReplyToQuestion, RepliesInTime, StaysWithin, is_of_record}
+use Rattle.question_turns.specs.UnderWay.{ActsForValue, IsReplyToQuestion, RepliesInTime, is_of_record}
 use Rattle.question_turns.proofs.PortLemmas.{acts, goes_on, made-answers, made-in-time, made-spends, made-up, made-within}
 use Rattle.question_turns.proofs.TurnsLemmas.{all-acted, may-act, few-made, fewer-after, most-asked, some-left}
 use Rattle.question_turns.proofs.port_ask.PortAsk.end_turn.Goals as goal
