@@ -1,5 +1,6 @@
 -- What an evaluation that is asked for has come to.
-use Rattle.std.proofs.Common.{◌≡◌, ◌≤◌, ◌⊎◌, ◌+◌, ◌-◌, ◌++◌, ◌∙◌, ap, arith, inl, inr, refl, subst, sym, ℕ, zero, suc, Option, None, Some, Result, Ok, Err}
+use Rattle.std.proofs.Common.{◌≡◌, ◌≤◌, ◌⊎◌, ◌+◌, ◌-◌, ◌++◌, ◌∙◌, ap, arith, inl, inr, refl, subst, sym, ℕ, zero, suc, Option, None, Some}
+use Rattle.std.proofs.Common.{Result, Ok, Err}
 use Rattle.mk_base.specs.declared.budget.TheConstants.{UNITS}
 use Rattle.turn_amounts.specs.declared.TheConstants.{MOST_CHECKS}
 use Rattle.mk_paths.specs.World.{FileMap, World}
@@ -32,7 +33,8 @@ use Rattle.eval_ask.specs.declared.ask.AskTurned.{AskTurned}
 use Rattle.eval_ask.specs.declared.ask.AskTurned.TheVariants as ask
 
 -- what was spent is no more than the evaluation costs
-pub within-answer : (files : FileMap) (key : Key) (asked : Asked) → IsAnswerTo files key asked → asked.units ≤ cost_of (evaluation_of files key).outcome
+pub within-answer : (files : FileMap) (key : Key) (asked : Asked) → IsAnswerTo files key asked
+    → asked.units ≤ cost_of (evaluation_of files key).outcome
 within-answer files key asked is = within_by (cost_of (evaluation_of files key).outcome) asked.units is.whole
   where
     within_by : (cost units : ℕ) → (1 ≤ units → units ≡ cost) → units ≤ cost
@@ -46,7 +48,8 @@ cost_left (Err end) = refl
 -- an evaluation costs few units
 pub cost-within : (files : FileMap) (key : Key) → cost_of (evaluation_of files key).outcome ≤ UNITS
 cost-within files key =
-    let end : Result (EvalState × Account) (FaultAt × Account) = evaluation (files, key.settings) key.name key.flavors (unspent_account UNITS None) in
+    let end : Result (EvalState × Account) (FaultAt × Account) = evaluation (files, key.settings) key.name key.flavors
+        (unspent_account UNITS None) in
     let shared = shared-evaluation files files key.settings key.name key.flavors in
     omega (arith, cost_left end, spends shared (full UNITS) None end refl, shared.steady.within (full UNITS) (omega arith))
 
@@ -55,18 +58,22 @@ can-go-on files key (ask.More new) come = come.1
 can-go-on files key (ask.Done asked) come = tt
 
 -- little is spent on an evaluation
-pub few-come : (files : FileMap) (key : Key) (turned : AskTurned) → HasComeTo files key turned → ((spent_in turned).units ≤ UNITS) × ((spent_in turned).checks ≤ MOST_CHECKS)
+pub few-come : (files : FileMap) (key : Key) (turned : AskTurned) → HasComeTo files key turned → ((spent_in turned).units ≤ UNITS)
+    × ((spent_in turned).checks ≤ MOST_CHECKS)
 few-come files key (ask.More new) come = (come.1.under.within, come.1.few)
 few-come files key (ask.Done asked) come = (omega (arith, within-answer files key asked come, cost-within files key), come.few)
 
 -- the last thing that was done in a turn is one of the evaluation
 module _ (files : FileMap) (units spent : ℕ) (old : Ask) (is : IsAskIn files old) (all : spent ≤ UNITS) where
-  last-thing : IsLastDone files units (point_of old.machine) spent → IsLastThing (files, (key_in old).settings) (pair_for (key_in old)) units old.machine.budget.spent spent
+  last-thing : IsLastDone files units (point_of old.machine) spent → IsLastThing (files, (key_in old).settings) (pair_for (key_in old))
+      units old.machine.budget.spent spent
   last-thing last =
       let next : Point = point_before last.makefile last.frame last.others last.state last.account in
-      let end : Result (StateAndFrames × Account) (FaultAt × Account) = advance files last.makefile last.frame last.others last.state last.account in
+      let end : Result (StateAndFrames × Account) (FaultAt × Account) = advance files last.makefile last.frame last.others
+          last.state last.account in
       let shared = shared-advance files last.makefile last.frame last.others last.state in
-      let onward : last.account.meter.spent ≤ spent = omega (arith, shared.steady.onward last.account.meter, spends shared last.account.meter last.account.log end refl, last.leaves) in
+      let onward : last.account.meter.spent ≤ spent =
+          omega (arith, shared.steady.onward last.account.meter, spends shared last.account.meter last.account.log end refl, last.leaves) in
       record {
         makefile = last.makefile;
         frame = last.frame;
@@ -74,7 +81,8 @@ module _ (files : FileMap) (units spent : ℕ) (old : Ask) (is : IsAskIn files o
         state = last.state;
         account = last.account;
         asked = old.trace ++ last.asked;
-        comes = come-on (files, (key_in old).settings) (key_in old).name (key_in old).flavors old.trace last.asked (point_of old.machine) next
+        comes = come-on (files, (key_in old).settings) (key_in old).name (key_in old).flavors old.trace last.asked
+            (point_of old.machine) next
             (omega (arith, onward, all, last.comes.later.limit, is.under.limit)) is.under last.comes;
         since = last.comes.later.spent;
         low = last.low;
@@ -82,40 +90,49 @@ module _ (files : FileMap) (units spent : ℕ) (old : Ask) (is : IsAskIn files o
       }
 
   stops-in-time : StopsInTime files units (point_of old.machine) spent
-      → (spent ≡ old.machine.budget.spent) ⊎ IsLastThing (files, (key_in old).settings) (pair_for (key_in old)) units old.machine.budget.spent spent
+      → (spent ≡ old.machine.budget.spent) ⊎ IsLastThing (files, (key_in old).settings) (pair_for (key_in old)) units
+          old.machine.budget.spent spent
   stops-in-time stops = elim stops.last [ inl none ↦ inl none | inr last ↦ inr (last-thing last) ]
 
 none_checked : (units before after : ℕ) → after ≡ before → units ≡ units - (after - before)
 none_checked units before after same = omega (arith, same)
 
 -- no answer is checked in a turn
-pub unchecked-turn : (files : FileMap) (units : ℕ) (old : Ask) (came : AskTurned) → TurnsAsk files units old came → (spent_in came).checks ≡ (spent_so_far old).checks
+pub unchecked-turn : (files : FileMap) (units : ℕ) (old : Ask) (came : AskTurned) → TurnsAsk files units old came
+    → (spent_in came).checks ≡ (spent_so_far old).checks
 unchecked-turn files units old (ask.More new) turns = ap (λ (looked : Looked). looked.checks) turns.0
 unchecked-turn files units old (ask.Done asked) turns = turns.0.checks
 
 -- a turn of an evaluation stops in time
-pub in-time : (files : FileMap) (key : Key) (units : ℕ) (old : Ask) (came : AskTurned) → HasComeTo files key (ask.More old) → TurnsAsk files units old came
+pub in-time : (files : FileMap) (key : Key) (units : ℕ) (old : Ask) (came : AskTurned) → HasComeTo files key (ask.More old)
+    → TurnsAsk files units old came
     → EvaluatesInTime (files, key.settings) (Some (pair_for key)) units (spent_so_far old) (spent_in came)
 in-time files key units old came come turns =
     subst (λ (k : Key). EvaluatesInTime (files, k.settings) (Some (pair_for k)) units (spent_so_far old) (spent_in came)) come.0
-    (subst (λ (n : ℕ). ((spent_in came).units ≡ old.machine.budget.spent) ⊎ IsLastThing (files, (key_in old).settings) (pair_for (key_in old)) n old.machine.budget.spent (spent_in came).units)
+    (subst (λ (n : ℕ). ((spent_in came).units ≡ old.machine.budget.spent) ⊎ IsLastThing (files, (key_in old).settings)
+        (pair_for (key_in old)) n old.machine.budget.spent (spent_in came).units)
     (none_checked units old.looked.checks (spent_in came).checks (unchecked-turn files units old came turns)) (stops came turns))
   where
     stops : (came : AskTurned) → TurnsAsk files units old came
-        → ((spent_in came).units ≡ old.machine.budget.spent) ⊎ IsLastThing (files, (key_in old).settings) (pair_for (key_in old)) units old.machine.budget.spent (spent_in came).units
+        → ((spent_in came).units ≡ old.machine.budget.spent) ⊎ IsLastThing (files, (key_in old).settings) (pair_for (key_in old)) units
+            old.machine.budget.spent (spent_in came).units
     stops (ask.More new) turns = stops-in-time files units new.machine.budget.spent old come.1 turns.1.under.within turns.3
-    stops (ask.Done asked) turns = stops-in-time files units asked.units old come.1 (omega (arith, turns.0.units, cost-within files (key_in old))) turns.1
+    stops (ask.Done asked) turns = stops-in-time files units asked.units old come.1
+        (omega (arith, turns.0.units, cost-within files (key_in old))) turns.1
 
 -- one that was under way tells all that it costs
-pub whole-turn : (files : FileMap) (units : ℕ) (old : Ask) (came : AskTurned) → TurnsAsk files units old came → TellsWhole (ask.More old) came
+pub whole-turn : (files : FileMap) (units : ℕ) (old : Ask) (came : AskTurned) → TurnsAsk files units old came
+    → TellsWhole (ask.More old) came
 whole-turn files units old (ask.More new) turns = tt
 whole-turn files units old (ask.Done asked) turns = turns.0.units ∙ sym (ap (λ (e : Evaluation). cost_of e.outcome) turns.0.evaluation)
 
 -- ---- a turn that goes on with an evaluation, after a look in the same turn
 
 -- what is given is what is left of the units
-module _ (world : World) (before middle after : Spent) (units given : ℕ) (same : middle.units ≡ before.units) (up : before.checks ≤ middle.checks)
-    (given_is : given ≡ units - ((middle.units - before.units) + (middle.checks - before.checks))) (unchecked : after.checks ≡ middle.checks) where
+module _ (world : World) (before middle after : Spent) (units given : ℕ) (same : middle.units ≡ before.units)
+    (up : before.checks ≤ middle.checks)
+    (given_is : given ≡ units - ((middle.units - before.units) + (middle.checks - before.checks)))
+    (unchecked : after.checks ≡ middle.checks) where
   pub in-time-looked : (pair : Option Pair) → EvaluatesInTime world pair given middle after → EvaluatesInTime world pair units before after
   in-time-looked None in_time = in_time
   in-time-looked (Some pair) in_time = elim in_time [
@@ -135,7 +152,8 @@ module _ (world : World) (before middle after : Spent) (units given : ℕ) (same
   ]
 
   -- little is spent then
-  pub short-looked : (pair : Option Pair) → after.units ≤ UNITS → middle.checks ≤ before.checks + MOST_CHECKS → EvaluatesInTime world pair given middle after → IsShort units before after
+  pub short-looked : (pair : Option Pair) → after.units ≤ UNITS → middle.checks ≤ before.checks + MOST_CHECKS
+      → EvaluatesInTime world pair given middle after → IsShort units before after
   short-looked None few looked in_time = absurd in_time
   short-looked (Some pair) few looked in_time = elim in_time [
     | inl none ↦ omega (arith, same, none, looked, unchecked, few)
@@ -153,7 +171,8 @@ pub SpendsOnOne-answer : (files : FileMap) (key : Key) (asked : Asked) (cost : �
     → SpendsOnOne cost (cost_of (evaluation_of files key).outcome) 1 (spent_less_saved asked cost)
 SpendsOnOne-answer files key asked cost is = record {
   few = omega (arith, is.few);
-  paid = subst (λ (n : ℕ). (cost - (n - asked.units) ≡ cost) ⊎ ((1 ≤ asked.checks) × (cost - (n - asked.units) ≡ cost - cost_of (evaluation_of files key).outcome)))
+  paid = subst (λ (n : ℕ). (cost - (n - asked.units) ≡ cost)
+      ⊎ ((1 ≤ asked.checks) × (cost - (n - asked.units) ≡ cost - cost_of (evaluation_of files key).outcome)))
       (sym (ap (λ (e : Evaluation). cost_of e.outcome) is.evaluation))
       (spent_by cost (cost_of (evaluation_of files key).outcome) asked.units asked.checks is.whole is.unchecked);
 }

@@ -52,8 +52,10 @@ fault_of-number kinds.Questions = refl
 fault_code : Coded FaultAt
 fault_code =
     code_by (ℕ × (List ℕ × ℕ)) (coded× coded_ℕ (coded× (coded_list coded_ℕ) coded_ℕ))
-    (λ fault. (fault_number fault.kind, (fault.name, fault.line))) (λ parts. record { kind = fault_of parts.0; name = parts.1.0; line = parts.1.1 })
-    (λ fault. ap (λ kind. let same : FaultAt = record { kind = kind; name = fault.name; line = fault.line } in same) (fault_of-number fault.kind))
+    (λ fault. (fault_number fault.kind, (fault.name, fault.line)))
+    (λ parts. record { kind = fault_of parts.0; name = parts.1.0; line = parts.1.1 })
+    (λ fault. ap (λ kind. let same : FaultAt = record { kind = kind; name = fault.name; line = fault.line } in same)
+        (fault_of-number fault.kind))
 
 abbrev kind_number : Kind → ℕ
 kind_number outcome.Port = 0
@@ -76,8 +78,10 @@ variables_code = coded× profile_code (code (coded_list coded_ℕ) (coded_list c
 
 state_code : Coded EvalState
 state_code =
-    code_by (Variables × (Kind × (Bool × List (List ℕ)))) (coded× variables_code (coded× kind_code (coded× coded_bool (coded_list (coded_list coded_ℕ)))))
-    (λ state. (state.variables, (state.kind, (state.shared_asked, state.path)))) (λ parts. record { variables = parts.0; kind = parts.1.0; shared_asked = parts.1.1.0; path = parts.1.1.1 }) (λ state. refl)
+    code_by (Variables × (Kind × (Bool × List (List ℕ))))
+        (coded× variables_code (coded× kind_code (coded× coded_bool (coded_list (coded_list coded_ℕ)))))
+    (λ state. (state.variables, (state.kind, (state.shared_asked, state.path))))
+    (λ parts. record { variables = parts.0; kind = parts.1.0; shared_asked = parts.1.1.0; path = parts.1.1.1 }) (λ state. refl)
 
 abbrev reply_parts : Reply → Bool ⊎ Option (List ℕ)
 reply_parts (Presence there) = inl there
@@ -100,7 +104,8 @@ question_code = coded× (coded_list coded_ℕ) reply_code
 meter_code : Coded Meter
 meter_code =
     code_by (ℕ × (ℕ × ℕ)) (coded× coded_ℕ (coded× coded_ℕ coded_ℕ))
-    (λ meter. (meter.limit, (meter.spent, meter.questions))) (λ parts. record { limit = parts.0; spent = parts.1.0; questions = parts.1.1 }) (λ meter. refl)
+    (λ meter. (meter.limit, (meter.spent, meter.questions))) (λ parts. record { limit = parts.0; spent = parts.1.0; questions = parts.1.1 })
+    (λ meter. refl)
 
 account_code : Coded Account
 account_code =
@@ -114,10 +119,12 @@ end_code = coded_result (coded× state_code account_code) (coded× fault_code ac
 evaluated_code : Coded Evaluated
 evaluated_code =
     code_by (Kind × (Variables × ℕ)) (coded× kind_code (coded× variables_code coded_ℕ))
-    (λ evaluated. (evaluated.kind, (evaluated.env, evaluated.cost))) (λ parts. record { kind = parts.0; env = parts.1.0; cost = parts.1.1 }) (λ evaluated. refl)
+    (λ evaluated. (evaluated.kind, (evaluated.env, evaluated.cost))) (λ parts. record { kind = parts.0; env = parts.1.0; cost = parts.1.1 })
+    (λ evaluated. refl)
 
 failed_code : Coded Failed
-failed_code = code_by (FaultAt × ℕ) (coded× fault_code coded_ℕ) (λ failed. (failed.fault, failed.cost)) (λ parts. record { fault = parts.0; cost = parts.1 }) (λ failed. refl)
+failed_code = code_by (FaultAt × ℕ) (coded× fault_code coded_ℕ) (λ failed. (failed.fault, failed.cost))
+    (λ parts. record { fault = parts.0; cost = parts.1 }) (λ failed. refl)
 
 -- what a makefile means, with what its evaluation asks
 pub evaluation_code : Coded Evaluation

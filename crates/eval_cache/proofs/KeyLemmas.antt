@@ -1,5 +1,6 @@
 -- Keys with the same profile and the same texts.
-use Rattle.std.proofs.Common.{◌≡◌, ◌∙◌, ap, ap₂, refl, sym, ◌&&◌, ℕ, Bool, true, false, List, [], ◌∷◌, map, Option, Some, None, option_map, String, Global, eqb}
+use Rattle.std.proofs.Common.{◌≡◌, ◌∙◌, ap, ap₂, refl, sym, ◌&&◌, ℕ, Bool, true, false, List, [], ◌∷◌, map, Option, Some, None, option_map}
+use Rattle.std.proofs.Common.{String, Global, eqb}
 use Rattle.std.proofs.lemmas.Slice.Eq.{slice_eq-Decides, bytes_eq-Decides}
 use Rattle.std.specs.Cmp.Lexicographic.{pointwise}
 use Rattle.std.specs.Option.{option_eq}
@@ -14,7 +15,8 @@ use Rattle.mk_text.specs.Profiles.{profile_number}
 use Rattle.eval_cache.specs.declared.key.EvalKey.{EvalKey}
 use Rattle.eval_cache.specs.Keys.{Key, key_for, key_of, same_key}
 
-texts_eq : (texts others : List (String Global)) → pointwise string_eq texts others ≡ pointwise bytes_eq (map string_bytes texts) (map string_bytes others)
+texts_eq : (texts others : List (String Global)) → pointwise string_eq texts others ≡ pointwise bytes_eq (map string_bytes texts)
+    (map string_bytes others)
 texts_eq [] [] = refl
 texts_eq [] (other ∷ others) = refl
 texts_eq (text ∷ texts) [] = refl
@@ -47,12 +49,14 @@ profiles_eq Two Two = refl
 abbrev pub key_eq : EvalKey → EvalKey → Bool
 key_eq one other =
     profile_eq one.profile other.profile
-    && (pointwise string_eq one.trees.items other.trees.items && (string_eq one.name other.name && option_eq vec_eq one.flavors other.flavors))
+    && (pointwise string_eq one.trees.items other.trees.items &&
+        (string_eq one.name other.name && option_eq vec_eq one.flavors other.flavors))
 
 -- is by their texts
 pub key_eq-same_key : (one other : EvalKey) → key_eq one other ≡ same_key (key_of one) (key_of other)
 key_eq-same_key one other =
-    let texts = ap₂ (λ trees flavors. trees && (string_eq one.name other.name && flavors)) (texts_eq one.trees.items other.trees.items) (flavors_eq one.flavors other.flavors) in
+    let texts = ap₂ (λ trees flavors. trees && (string_eq one.name other.name && flavors)) (texts_eq one.trees.items other.trees.items)
+        (flavors_eq one.flavors other.flavors) in
     ap₂ (λ profile rest. profile && rest) (profiles_eq one.profile other.profile) texts
 
 both : (b c : Bool) → b && c ≡ true → (b ≡ true) × (c ≡ true)
@@ -105,7 +109,9 @@ both-true b c b_is c_is = ap₂ (λ b c. b && c) b_is c_is
 -- a key has the profile and the texts of itself
 pub same_key-refl : (key : Key) → same_key key key ≡ true
 same_key-refl key =
-    both-true _ _ (same_number-refl key.settings.profile) (both-true _ _ ((slice_eq-Decides bytes_eq-Decides key.settings.path key.settings.path (pointwise bytes_eq key.settings.path key.settings.path) refl).1 refl)
+    both-true _ _ (same_number-refl key.settings.profile)
+        (both-true _ _ ((slice_eq-Decides bytes_eq-Decides key.settings.path key.settings.path
+        (pointwise bytes_eq key.settings.path key.settings.path) refl).1 refl)
     (both-true _ _ ((bytes_eq-Decides key.name key.name).1 refl) (same_flavors-refl key.flavors)))
 
 -- so keys that are the same are equal

@@ -1,5 +1,6 @@
 -- Traces are tried one after another.
-use Rattle.std.proofs.Common.{◌≡◌, ◌∙◌, ap, sym, subst, arith, ℕ, suc, zero, ◌+◌, ◌≤◌, ◌<◌, Bool, true, false, List, [], ◌∷◌, ◌++◌, map, length, take, drop, get_or, Option, Some, None, IfSome, inl, inr, Global, append_assoc}
+use Rattle.std.proofs.Common.{◌≡◌, ◌∙◌, ap, sym, subst, arith, ℕ, suc, zero, ◌+◌, ◌≤◌, ◌<◌, Bool, true, false, List, [], ◌∷◌, ◌++◌, map}
+use Rattle.std.proofs.Common.{length, take, drop, get_or, Option, Some, None, IfSome, inl, inr, Global, append_assoc}
 use Rattle.turn_amounts.specs.declared.TheConstants.{MOST_ANSWERS, MOST_EVALUATIONS}
 use Rattle.std.specs.Prelude.{if◌then◌else◌}
 use Rattle.std.proofs.lemmas.List.{drop_more}
@@ -62,14 +63,16 @@ agreement-some files [] some = absurd (omega (arith, some))
 agreement-some files (question ∷ questions) some = one_more_checked-checked files questions (has_reply files question)
 
 -- so one trace adds few of them, and at least one
-pub few-more : (kept : List (Rc Evaluation Global)) (i : ℕ) (one : Rc Evaluation Global) (evaluation : Evaluation) (files : FileMap) (answer : Bool × ℕ)
+pub few-more : (kept : List (Rc Evaluation Global)) (i : ℕ) (one : Rc Evaluation Global) (evaluation : Evaluation)
+    (files : FileMap) (answer : Bool × ℕ)
     → AreShort kept → i < length kept → one ≡ get_or kept i one → evaluation ≡ one.value → answer ≡ agreement files evaluation.trace
     → (answer.1 ≤ MOST_ANSWERS) × (i < MOST_EVALUATIONS) × (1 ≤ answer.1)
 few-more kept i one evaluation files answer short within is same found =
     let at : HasFewAnswers one.value.trace = short-at kept i one short.0 within is in
     let trace : HasFewAnswers evaluation.trace = subst (λ (e : Evaluation). HasFewAnswers e.trace) (sym same) at in
     let count : answer.1 ≡ (agreement files evaluation.trace).1 = ap (λ (p : Bool × ℕ). p.1) found in
-    (omega (arith, agreement-≤ files evaluation.trace, trace.1), omega (arith, short.1), omega (arith, agreement-some files evaluation.trace trace.0))
+    (omega (arith, agreement-≤ files evaluation.trace, trace.1), omega (arith, short.1),
+        omega (arith, agreement-some files evaluation.trace trace.0))
 
 -- What was checked before the rest of the traces: none agreed, so many answers were checked, and the view of the
 -- files is this.
@@ -79,7 +82,8 @@ pub record Checked (old : FilesView) (traces rest : List (List Question)) (count
   pub in_log : new ≡ noted old before
   pub asked : checked_among old.files traces ≡ before ++ checked_among old.files rest
 
-after_more_checks-twice : (count more : ℕ) (checked : Bool × ℕ) → after_more_checks count (after_more_checks more checked) ≡ after_more_checks (count + more) checked
+after_more_checks-twice : (count more : ℕ) (checked : Bool × ℕ) → after_more_checks count (after_more_checks more checked) ≡
+    after_more_checks (count + more) checked
 after_more_checks-twice count more checked = ap (λ n. (checked.0, n)) (omega arith)
 
 files-checked : (old middle : FilesView) (before : List Question) → middle ≡ noted old before → middle.files ≡ old.files
@@ -91,7 +95,8 @@ agreement-checked old middle before trace answer is found =
     sym (found ∙ ap (λ files. agreement files trace) (files-checked old middle before is))
 
 -- a trace that was found to agree is answered as the files answer it
-pub IsAnswered-checked : (old : FilesView) (traces rest : List (List Question)) (count : ℕ) (middle : FilesView) (answer : Bool × ℕ) (trace : List Question)
+pub IsAnswered-checked : (old : FilesView) (traces rest : List (List Question)) (count : ℕ) (middle : FilesView)
+    (answer : Bool × ℕ) (trace : List Question)
     → Checked old traces rest count middle → answer ≡ agreement middle.files trace → answer.0 ≡ true → IsAnswered old.files trace
 IsAnswered-checked old traces rest count middle answer trace so_far found same =
     ap (λ (p : Bool × ℕ). p.0) (agreement-checked old middle so_far.before trace answer so_far.in_log found) ∙ same
@@ -115,7 +120,8 @@ Checked-more old traces trace rest count answer middle new so_far found asks dif
     let differs' : (agreement old.files trace).0 ≡ false = ap (λ (p : Bool × ℕ). p.0) same ∙ differs in
     record {
       agreeing_so_far = so_far.agreeing_so_far
-          ∙ ap (λ b. after_more_checks count (if b then agreement old.files trace else after_more_checks (agreement old.files trace).1 (agreeing old.files rest))) differs'
+          ∙ ap (λ b. after_more_checks count (if b then agreement old.files trace else after_more_checks (agreement old.files trace).1
+              (agreeing old.files rest))) differs'
           ∙ ap (λ (p : Bool × ℕ). after_more_checks count (after_more_checks p.1 (agreeing old.files rest))) same
           ∙ after_more_checks-twice count answer.1 (agreeing old.files rest);
       before = so_far.before ++ checked_in old.files trace;
@@ -126,7 +132,8 @@ Checked-more old traces trace rest count answer middle new so_far found asks dif
     }
 
 -- the files failed at a question of a trace
-pub Checked-fails : (may : FilesFault → Type 0) (old : FilesView) (traces rest : List (List Question)) (count : ℕ) (middle new : FilesView) (fault : FilesFault)
+pub Checked-fails : (may : FilesFault → Type 0) (old : FilesView) (traces rest : List (List Question)) (count : ℕ)
+    (middle new : FilesView) (fault : FilesFault)
     → Checked old traces rest count middle → may fault → AfterFailedQuestion middle new → FailsAmong may old new fault
 Checked-fails may old traces rest count middle new fault so_far kind failed =
     LeavesAtStop-on may old middle new (stop_of fault) (record { questions = so_far.before; in_log = so_far.in_log }) (at_once fault kind)
@@ -136,9 +143,11 @@ Checked-fails may old traces rest count middle new fault so_far kind failed =
     at_once (faults.Memory _) kind = inr (kind, failed)
 
 -- the rest of the traces from a place on begins with the one there
-pub Checked-at : (old : FilesView) (kept : List (Rc Evaluation Global)) (i : ℕ) (one : Rc Evaluation Global) (evaluation : Evaluation) (count : ℕ) (new : FilesView)
+pub Checked-at : (old : FilesView) (kept : List (Rc Evaluation Global)) (i : ℕ) (one : Rc Evaluation Global) (evaluation : Evaluation)
+    (count : ℕ) (new : FilesView)
     → i < length kept → one ≡ get_or kept i one → evaluation ≡ one.value
-    → Checked old (traces_of kept) (traces_of (drop i kept)) count new → Checked old (traces_of kept) (evaluation.trace ∷ traces_of (drop (i + 1) kept)) count new
+    → Checked old (traces_of kept) (traces_of (drop i kept)) count new
+    → Checked old (traces_of kept) (evaluation.trace ∷ traces_of (drop (i + 1) kept)) count new
 Checked-at old kept i one evaluation count new within is same so_far =
     subst (λ rest. Checked old (traces_of kept) rest count new)
     (ap traces_of (drop_more kept i one within) ∙ ap (λ (r : Rc Evaluation Global). r.value.trace ∷ traces_of (drop (i + 1) kept)) (sym is)
@@ -146,7 +155,8 @@ Checked-at old kept i one evaluation count new within is same so_far =
     so_far
 
 -- the evaluation that is found is the one that is asked for
-pub AreRight-found : (files : FileMap) (key : Key) (checked : ℕ) (kept : List (Rc Evaluation Global)) (found : Option (Rc Evaluation Global)) → AreRight key kept
+pub AreRight-found : (files : FileMap) (key : Key) (checked : ℕ) (kept : List (Rc Evaluation Global))
+    (found : Option (Rc Evaluation Global)) → AreRight key kept
     → IfSome found (λ evaluation. IsOneOf kept evaluation.value × IsAnswered files evaluation.value.trace × (1 ≤ checked))
     → IfSome found (λ evaluation. IsAgreed files key checked evaluation.value)
 AreRight-found files key checked kept None right found = tt
@@ -157,7 +167,8 @@ AreRight-found files key checked kept (Some evaluation) right found = record {
 }
 
 -- no more can share an evaluation whose trace agrees
-pub Checked-alone : (may : FilesFault → Type 0) (old : FilesView) (traces : List (List Question)) (trace : List Question) (rest : List (List Question)) (count : ℕ)
+pub Checked-alone : (may : FilesFault → Type 0) (old : FilesView) (traces : List (List Question)) (trace : List Question)
+    (rest : List (List Question)) (count : ℕ)
     (answer : Bool × ℕ) (middle new : FilesView) → Checked old traces (trace ∷ rest) count middle → answer ≡ agreement middle.files trace
     → AsksAgain middle trace answer.1 new → FailsAmong may old new (faults.Memory refused)
 Checked-alone may old traces trace rest count answer middle new so_far found asks =

@@ -1,5 +1,6 @@
 -- What is seen of the tables has their order.
-use Rattle.std.proofs.Common.{◌≡◌, ◌∙◌, ap, refl, sym, cond, ℕ, Bool, true, false, List, [], ◌∷◌, map, take, Option, Some, None, option_map, is_some, inl, inr, ◌⊎◌, Result, Global}
+use Rattle.std.proofs.Common.{◌≡◌, ◌∙◌, ap, refl, sym, cond, ℕ, Bool, true, false, List, [], ◌∷◌, map, take, Option, Some, None, option_map}
+use Rattle.std.proofs.Common.{is_some, inl, inr, ◌⊎◌, Result, Global}
 use Rattle.turn_amounts.specs.declared.TheConstants.{MOST_EVALUATIONS}
 use Rattle.std.specs.List.{AllByRecursion, IsDistinct, list_any}
 use Rattle.std.specs.Map.{lookup, lookup_entry, remove_entry, keys_of}
@@ -20,7 +21,8 @@ use Rattle.eval_cache.specs.declared.counts.Counts.{Counts}
 use Rattle.eval_cache.specs.declared.key.EvalKey.{EvalKey}
 use Rattle.eval_cache.specs.Keys.{Key, key_of, same_key}
 use Rattle.eval_cache.specs.Cache.{CacheValue, traces_at, one_more, count_parse}
-use Rattle.eval_cache.specs.Held.{KeptParses, KeptEvaluations, contents_of, traces_of, traces_by_key, evaluations_in, HasFewAnswers, AreNewest}
+use Rattle.eval_cache.specs.Held.{KeptParses, KeptEvaluations, contents_of, traces_of, traces_by_key, evaluations_in, HasFewAnswers}
+use Rattle.eval_cache.specs.Held.{AreNewest}
 use Rattle.eval_cache.specs.declared.purpose.Purpose.{Purpose}
 use Rattle.eval_cache.specs.CacheOrder.{placed, PutsNew, without_content, Keeps, HandsOut}
 use Rattle.eval_cache.proofs.KeyLemmas.{key_eq, key_eq-same_key, key_eq-≡, ≡-key_eq}
@@ -46,11 +48,13 @@ module _ {K L X Y : Type 0} (key : K → L) (value : X → Y) (test : K → Bool
 
   found_step : (entry : K × X) (entries : List (K × X)) (b : Bool) (rest : Option (L × Y))
       → rest ≡ option_map (λ e. (key e.0, value e.1)) (lookup_entry test entries)
-      → cond b (Some (key entry.0, value entry.1)) rest ≡ option_map (λ e. (key e.0, value e.1)) (cond b (Some entry) (lookup_entry test entries))
+      → cond b (Some (key entry.0, value entry.1)) rest ≡ option_map (λ e. (key e.0, value e.1))
+          (cond b (Some entry) (lookup_entry test entries))
   found_step entry entries true rest is = refl
   found_step entry entries false rest is = is
 
-  lookup_entry-shown : (entries : List (K × X)) → lookup_entry seen (shown entries) ≡ option_map (λ e. (key e.0, value e.1)) (lookup_entry test entries)
+  lookup_entry-shown : (entries : List (K × X)) → lookup_entry seen (shown entries) ≡ option_map (λ e. (key e.0, value e.1))
+      (lookup_entry test entries)
   lookup_entry-shown [] = refl
   lookup_entry-shown (entry ∷ entries) =
       ap (λ b. cond b (Some (key entry.0, value entry.1)) (lookup_entry seen (shown entries))) (sym (same entry.0))
@@ -71,12 +75,14 @@ module _ {K L X Y : Type 0} (key : K → L) (value : X → Y) (test : K → Bool
 pub traces-first : (evals : KeptEvaluations) (key : EvalKey)
     → traces_by_key (promoted (key_eq key) evals) ≡ promoted (same_key (key_of key)) (traces_by_key evals)
 traces-first evals key =
-    sym (promoted-shown key_of (λ (kept : Vec (Rc Evaluation Global) Global). traces_of kept.items) (key_eq key) (same_key (key_of key)) (key_eq-same_key key) evals)
+    sym (promoted-shown key_of (λ (kept : Vec (Rc Evaluation Global) Global). traces_of kept.items) (key_eq key) (same_key (key_of key))
+        (key_eq-same_key key) evals)
 
 traces-removed : (evals : KeptEvaluations) (key : EvalKey)
     → traces_by_key (remove_entry (key_eq key) evals) ≡ remove_entry (same_key (key_of key)) (traces_by_key evals)
 traces-removed evals key =
-    sym (remove_entry-shown key_of (λ (kept : Vec (Rc Evaluation Global) Global). traces_of kept.items) (key_eq key) (same_key (key_of key)) (key_eq-same_key key) evals)
+    sym (remove_entry-shown key_of (λ (kept : Vec (Rc Evaluation Global) Global). traces_of kept.items) (key_eq key) (same_key (key_of key))
+        (key_eq-same_key key) evals)
 
 -- ---- a key that is there at most once
 
@@ -87,11 +93,14 @@ differs : (b : Bool) → (b ≡ true → ⊥) → b ≡ false
 differs true never = absurd (never refl)
 differs false never = refl
 
-module _ {K X : Type 0} (eq : K → K → Bool) (test : K → Bool) (only : (one other : K) → test one ≡ true → test other ≡ true → eq one other ≡ true) where
-  none_after : (one : K) (entries : List (K × X)) → test one ≡ true → AllByRecursion (λ other. eq one other ≡ false) (keys_of entries) → lookup_entry test entries ≡ None
+module _ {K X : Type 0} (eq : K → K → Bool) (test : K → Bool) (only : (one other : K) → test one ≡ true → test other ≡ true
+    → eq one other ≡ true) where
+  none_after : (one : K) (entries : List (K × X)) → test one ≡ true → AllByRecursion (λ other. eq one other ≡ false) (keys_of entries)
+      → lookup_entry test entries ≡ None
   none_after one [] is apart = refl
   none_after one (entry ∷ entries) is apart =
-      ap (λ b. cond b (Some entry) (lookup_entry test entries)) (differs (test entry.0) (λ too. not_true (eq one entry.0) (only one entry.0 is too) apart.0))
+      ap (λ b. cond b (Some entry) (lookup_entry test entries))
+          (differs (test entry.0) (λ too. not_true (eq one entry.0) (only one entry.0 is too) apart.0))
       ∙ none_after one entries is apart.1
 
   gone_step : (entry : K × X) (entries : List (K × X)) (b : Bool) → test entry.0 ≡ b → (b ≡ true → lookup_entry test entries ≡ None)
@@ -99,7 +108,8 @@ module _ {K X : Type 0} (eq : K → K → Bool) (test : K → Bool) (only : (one
   gone_step entry entries true is here rest = here refl
   gone_step entry entries false is here rest = ap (λ b. cond b (Some entry) (lookup_entry test (remove_entry test entries))) is ∙ rest
 
-  pub lookup_entry-removed : (entries : List (K × X)) → IsDistinct eq (keys_of entries) → lookup_entry test (remove_entry test entries) ≡ None
+  pub lookup_entry-removed : (entries : List (K × X)) → IsDistinct eq (keys_of entries)
+      → lookup_entry test (remove_entry test entries) ≡ None
   unfolding IsDistinct
   lookup_entry-removed [] distinct = refl
   lookup_entry-removed (entry ∷ entries) distinct =
@@ -109,7 +119,8 @@ one_key : (key one other : EvalKey) → key_eq key one ≡ true → key_eq key o
 one_key key one other is too = ≡-key_eq one other (sym (key_eq-≡ key one is) ∙ key_eq-≡ key other too)
 
 -- so none of its evaluations are left after they were taken out
-pub none-left : (old middle : LruCache EvalKey (Vec (Rc Evaluation Global) Global)) (key : EvalKey) → IsDistinct key_eq (keys_of old.entries)
+pub none-left : (old middle : LruCache EvalKey (Vec (Rc Evaluation Global) Global)) (key : EvalKey)
+    → IsDistinct key_eq (keys_of old.entries)
     → middle ≡ lru_cache (remove_entry (key_eq key) old.entries) old.cap → lookup_entry (key_eq key) middle.entries ≡ None
 none-left old middle key distinct removed =
     ap (λ (c : LruCache EvalKey (Vec (Rc Evaluation Global) Global)). lookup_entry (key_eq key) c.entries) removed
@@ -117,25 +128,32 @@ none-left old middle key distinct removed =
 
 -- The evaluations of a key were taken out, and others put there, if there is memory for that. What is seen is that the
 -- traces of these are new, or that those of the key are gone.
-pub traces-put : (purpose : Purpose) (old middle new : LruCache EvalKey (Vec (Rc Evaluation Global) Global)) (key : EvalKey) (kept : Vec (Rc Evaluation Global) Global)
+pub traces-put : (purpose : Purpose) (old middle new : LruCache EvalKey (Vec (Rc Evaluation Global) Global)) (key : EvalKey)
+    (kept : Vec (Rc Evaluation Global) Global)
     → middle ≡ lru_cache (remove_entry (key_eq key) old.entries) old.cap → PutsNew purpose (key, kept) middle new
-    → (traces_by_key new.entries ≡ placed purpose old.cap (key_of key, traces_of kept.items) (remove_entry (same_key (key_of key)) (traces_by_key old.entries)))
+    → (traces_by_key new.entries ≡ placed purpose old.cap (key_of key, traces_of kept.items)
+        (remove_entry (same_key (key_of key)) (traces_by_key old.entries)))
     ⊎ (traces_by_key new.entries ≡ remove_entry (same_key (key_of key)) (traces_by_key old.entries))
 traces-put purpose old middle new key kept removed (inl put) =
     inl (
     ap (λ (c : LruCache EvalKey (Vec (Rc Evaluation Global) Global)). traces_by_key c.entries) put
     ∙ ap (λ (c : LruCache EvalKey (Vec (Rc Evaluation Global) Global)). traces_by_key (placed purpose c.cap (key, kept) c.entries)) removed
-    ∙ placed-shown (λ (e : EvalKey × Vec (Rc Evaluation Global) Global). (key_of e.0, traces_of e.1.items)) purpose old.cap (key, kept) (remove_entry (key_eq key) old.entries)
+    ∙ placed-shown (λ (e : EvalKey × Vec (Rc Evaluation Global) Global). (key_of e.0, traces_of e.1.items)) purpose old.cap (key, kept)
+        (remove_entry (key_eq key) old.entries)
     ∙ ap (placed purpose old.cap (key_of key, traces_of kept.items)) (traces-removed old.entries key)
     )
 traces-put purpose old middle new key kept removed (inr same) =
-    inr (ap (λ (c : LruCache EvalKey (Vec (Rc Evaluation Global) Global)). traces_by_key c.entries) (same ∙ removed) ∙ traces-removed old.entries key)
+    inr (ap (λ (c : LruCache EvalKey (Vec (Rc Evaluation Global) Global)). traces_by_key c.entries) (same ∙ removed)
+        ∙ traces-removed old.entries key)
 
-cap-put : (purpose : Purpose) (old middle new : LruCache EvalKey (Vec (Rc Evaluation Global) Global)) (key : EvalKey) (kept : Vec (Rc Evaluation Global) Global)
+cap-put : (purpose : Purpose) (old middle new : LruCache EvalKey (Vec (Rc Evaluation Global) Global)) (key : EvalKey)
+    (kept : Vec (Rc Evaluation Global) Global)
     → middle ≡ lru_cache (remove_entry (key_eq key) old.entries) old.cap → PutsNew purpose (key, kept) middle new → new.cap ≡ old.cap
 cap-put purpose old middle new key kept removed (inl put) =
-    ap (λ (c : LruCache EvalKey (Vec (Rc Evaluation Global) Global)). c.cap) put ∙ ap (λ (c : LruCache EvalKey (Vec (Rc Evaluation Global) Global)). c.cap) removed
-cap-put purpose old middle new key kept removed (inr same) = ap (λ (c : LruCache EvalKey (Vec (Rc Evaluation Global) Global)). c.cap) (same ∙ removed)
+    ap (λ (c : LruCache EvalKey (Vec (Rc Evaluation Global) Global)). c.cap) put
+        ∙ ap (λ (c : LruCache EvalKey (Vec (Rc Evaluation Global) Global)). c.cap) removed
+cap-put purpose old middle new key kept removed (inr same) = ap (λ (c : LruCache EvalKey (Vec (Rc Evaluation Global) Global)). c.cap)
+    (same ∙ removed)
 
 -- a cache whose evaluations are these
 abbrev pub with_evals : List (List ℕ) → ℕ → Counts → Purpose → LruCache EvalKey (Vec (Rc Evaluation Global) Global) → CacheValue
@@ -157,7 +175,8 @@ pub Keeps-put : (contents : List (List ℕ)) (parses : ℕ) (counts : Counts) (p
 Keeps-put contents parses counts purpose old middle new key evaluation older kept few found newest removed puts =
     let first : List (List Question) → List (Key × List (List Question)) =
     λ traces. placed purpose old.cap (key_of key, traces) (remove_entry (same_key (key_of key)) (traces_by_key old.entries)) in
-    let before : traces_of (evaluations_in older) ≡ traces_at (with_evals contents parses counts purpose old) (key_of key) = traces-of-kept old.entries key older found in
+    let before : traces_of (evaluations_in older) ≡ traces_at (with_evals contents parses counts purpose old) (key_of key) =
+        traces-of-kept old.entries key older found in
     record {
       few = λ _. elim (traces-put purpose old middle new key kept removed puts) [
         | inl put ↦ elim newest.traces [
@@ -167,32 +186,39 @@ Keeps-put contents parses counts purpose old middle new key evaluation older kep
         | inr gone ↦ inr (inr gone)
       ];
       other = λ many. absurd (many few);
-      rest = ap (λ keys. record { contents = contents; traces = traces_by_key new.entries; sizes = record { parses = parses; keys = keys }; counts = counts; purpose = purpose })
+      rest = ap (λ keys. record { contents = contents; traces = traces_by_key new.entries; sizes = record { parses = parses; keys = keys };
+          counts = counts; purpose = purpose })
           (cap-put purpose old middle new key kept removed puts);
     }
 
 -- ---- contents
 
-without_step : (content : List ℕ) (entry : ContentKey × Result (Rc Makefile Global) ParseFault) (entries : KeptParses) (b : Bool) (rest : List (List ℕ))
+without_step : (content : List ℕ) (entry : ContentKey × Result (Rc Makefile Global) ParseFault) (entries : KeptParses)
+    (b : Bool) (rest : List (List ℕ))
     → contents_of (remove_entry (λ k. bytes_eq content k.content) entries) ≡ rest
-    → contents_of (cond b entries (entry ∷ remove_entry (λ k. bytes_eq content k.content) entries)) ≡ cond b (contents_of entries) (entry.0.content ∷ rest)
+    → contents_of (cond b entries (entry ∷ remove_entry (λ k. bytes_eq content k.content) entries)) ≡ cond b (contents_of entries)
+        (entry.0.content ∷ rest)
 without_step content entry entries true rest is = refl
 without_step content entry entries false rest is = ap (λ more. entry.0.content ∷ more) is
 
-contents-removed : (parses : KeptParses) (key : ContentKey) → contents_of (remove_entry (content_eq key) parses) ≡ without_content key.content (contents_of parses)
+contents-removed : (parses : KeptParses) (key : ContentKey) → contents_of (remove_entry (content_eq key) parses) ≡ without_content
+    key.content (contents_of parses)
 contents-removed [] key = refl
 contents-removed (entry ∷ parses) key =
-    without_step key.content entry parses (bytes_eq key.content entry.0.content) (without_content key.content (contents_of parses)) (contents-removed parses key)
+    without_step key.content entry parses (bytes_eq key.content entry.0.content) (without_content key.content (contents_of parses))
+        (contents-removed parses key)
 
 first-content : (parses : KeptParses) (key : ContentKey) (found : Option (ContentKey × Result (Rc Makefile Global) ParseFault))
     → lookup_entry (content_eq key) parses ≡ found → is_some found ≡ true
-    → contents_of (option_map_or (λ e. e ∷ remove_entry (content_eq key) parses) found parses) ≡ key.content ∷ contents_of (remove_entry (content_eq key) parses)
+    → contents_of (option_map_or (λ e. e ∷ remove_entry (content_eq key) parses) found parses) ≡ key.content ∷ contents_of
+        (remove_entry (content_eq key) parses)
 first-content parses key None is there = absurd (true≢false (sym there))
 first-content parses key (Some entry) is there =
     ap (λ content. content ∷ contents_of (remove_entry (content_eq key) parses))
     (sym ((bytes_eq-Decides key.content entry.0.content).0 (Contains-lookup_entry (content_eq key) parses entry is).1))
 
-is_some-entry : {K X : Type 0} (test : K → Bool) (entries : List (K × X)) → is_some (lookup_entry test entries) ≡ is_some (lookup test entries)
+is_some-entry : {K X : Type 0} (test : K → Bool) (entries : List (K × X)) → is_some (lookup_entry test entries) ≡
+    is_some (lookup test entries)
 is_some-entry test [] = refl
 is_some-entry test (entry ∷ entries) = by (test entry.0) (is_some-entry test entries)
   where
@@ -213,13 +239,15 @@ is-none None isnt = refl
 is-none (Some value) isnt = absurd (true≢false isnt)
 
 -- nothing is kept for a content that isn't among those seen
-pub no-parse : (parses : KeptParses) (key : ContentKey) → is_some (lookup (content_eq key) parses) ≡ false → lookup_entry (content_eq key) parses ≡ None
+pub no-parse : (parses : KeptParses) (key : ContentKey) → is_some (lookup (content_eq key) parses) ≡ false
+    → lookup_entry (content_eq key) parses ≡ None
 no-parse parses key none = is-none _ (is_some-entry (content_eq key) parses ∙ none)
 
 -- the content of a new parse is new, if there is memory to keep it
 pub contents-put : (purpose : Purpose) (old new : LruCache ContentKey (Result (Rc Makefile Global) ParseFault)) (key : ContentKey)
     (parse : Result (Rc Makefile Global) ParseFault) → PutsNew purpose (key, parse) old new
-    → (contents_of new.entries ≡ placed purpose old.cap key.content (contents_of old.entries)) ⊎ (contents_of new.entries ≡ contents_of old.entries)
+    → (contents_of new.entries ≡ placed purpose old.cap key.content (contents_of old.entries))
+        ⊎ (contents_of new.entries ≡ contents_of old.entries)
 contents-put purpose old new key parse (inl put) =
     inl (
     ap (λ (c : LruCache ContentKey (Result (Rc Makefile Global) ParseFault)). contents_of c.entries) put
@@ -229,7 +257,8 @@ contents-put purpose old new key parse (inr same) =
     inr (ap (λ (c : LruCache ContentKey (Result (Rc Makefile Global) ParseFault)). contents_of c.entries) same)
 
 -- a cache whose parses are these
-abbrev pub with_parses : List (Key × List (List Question)) → ℕ → Counts → Purpose → LruCache ContentKey (Result (Rc Makefile Global) ParseFault) → CacheValue
+abbrev pub with_parses : List (Key × List (List Question)) → ℕ → Counts → Purpose
+    → LruCache ContentKey (Result (Rc Makefile Global) ParseFault) → CacheValue
 with_parses traces keys counts purpose parses = record {
   contents = contents_of parses.entries;
   traces = traces;
@@ -240,13 +269,15 @@ with_parses traces keys counts purpose parses = record {
 
 -- a parse that was kept was used
 pub HandsOut-kept : (traces : List (Key × List (List Question))) (keys : ℕ) (counts more : Counts) (purpose : Purpose)
-    (old new : LruCache ContentKey (Result (Rc Makefile Global) ParseFault)) (key : ContentKey) → is_some (lookup (content_eq key) old.entries) ≡ true
+    (old new : LruCache ContentKey (Result (Rc Makefile Global) ParseFault)) (key : ContentKey)
+        → is_some (lookup (content_eq key) old.entries) ≡ true
     → new ≡ lru_cache (promoted (content_eq key) old.entries) old.cap → more ≡ record counts { parses = one_more counts.parses }
     → HandsOut key.content (with_parses traces keys counts purpose old) (with_parses traces keys more purpose new)
 HandsOut-kept traces keys counts more purpose old new key there first counted =
     let held : list_any (bytes_eq key.content) (contents_of old.entries) ≡ true = sym (is_some-parse old.entries key) ∙ there in
     record {
-      kept = λ _. ap (λ (c : LruCache ContentKey (Result (Rc Makefile Global) ParseFault)). contents_of c.entries) first ∙ contents-first old.entries key there;
+      kept = λ _. ap (λ (c : LruCache ContentKey (Result (Rc Makefile Global) ParseFault)). contents_of c.entries) first
+          ∙ contents-first old.entries key there;
       made = λ isnt. absurd (true≢false (sym held ∙ isnt));
       counts = counted ∙ ap (λ b. count_parse b counts) (sym held);
       traces = refl;

@@ -1,5 +1,6 @@
 -- The rows that are left at the end of a walk.
-use Rattle.std.proofs.Common.{◌≡◌, ◌∙◌, ap, subst, sym, refl, ℕ, Bool, true, false, not, ◌&&◌, ◌||◌, if◌then◌else◌, List, [], ◌++◌, Result, Ok, Err, IfOk, OnOk, map, Option, Some, None, is_some, option_and_then, String, Global, string_bytes}
+use Rattle.std.proofs.Common.{◌≡◌, ◌∙◌, ap, subst, sym, refl, ℕ, Bool, true, false, not, ◌&&◌, ◌||◌, if◌then◌else◌, List, [], ◌++◌, Result}
+use Rattle.std.proofs.Common.{Ok, Err, IfOk, OnOk, map, Option, Some, None, is_some, option_and_then, String, Global, string_bytes}
 use Rattle.std.proofs.lemmas.Bool.{false≢true}
 use Rattle.std.specs.List.{flat_map}
 use Rattle.std.specs.Prelude.{Vec}
@@ -30,9 +31,12 @@ module _ (world : World) (old : ShownRows) (last : LastStage) (end : IsAtEnd wor
     paths = map string_bytes beside.items
 
     pub end-order : HasOrder last paths
-    end-order = (subst AreInOrder (sym end.far.listed) (in_order-again (flat_map (named_at (outcome_at world)) (directories (files_in world)) ++ directories (files_in world))), are.ordered)
+    end-order = (subst AreInOrder (sym end.far.listed)
+        (in_order-again (flat_map (named_at (outcome_at world)) (directories (files_in world)) ++ directories (files_in world))),
+        are.ordered)
 
-    either : (path : List ℕ) (listed : Bool) → is_one_of path (listed_paths world) ≡ listed → (listed || is_one_of path paths) ≡ true → is_one_of path (needed_paths world) ≡ true
+    either : (path : List ℕ) (listed : Bool) → is_one_of path (listed_paths world) ≡ listed → (listed || is_one_of path paths) ≡ true
+        → is_one_of path (needed_paths world) ≡ true
     either path true e one = needed-has world path e
     either path false e one = are.needed path one
 
@@ -47,7 +51,8 @@ module _ (world : World) (old : ShownRows) (last : LastStage) (end : IsAtEnd wor
     -- the rows that are kept are the fresh ones of needed paths
     pub kept-fresh : (path : List ℕ) → row_stays last paths path ≡ is_fresh_of (needed_paths world) old path
     kept-fresh path =
-        ap (λ row. (is_one_of path (map string_bytes last.listed.items) || is_one_of path paths) && is_some row) (entries-fresh old last.stage.known end.far.stage.knows path)
+        ap (λ row. (is_one_of path (map string_bytes last.listed.items) || is_one_of path paths) && is_some row)
+            (entries-fresh old last.stage.known end.far.stage.knows path)
         ∙ ap (λ listed. (is_one_of path listed || is_one_of path paths) && is_some (fresh old path)) end.far.listed
         ∙ kept_by path (is_some (fresh old path)) refl
 
@@ -58,7 +63,8 @@ module _ (world : World) (old : ShownRows) (last : LastStage) (end : IsAtEnd wor
         let here = alone path some in
         ap (λ b. b && is_some (fresh old path)) here.0 ∙ decided-there world (fresh old) path here.1 (end.fresh path here.0)
 
-    left_at : (path : List ℕ) (row : Option ShownRow) → old path ≡ row → row ≡ (if is_fresh_of (needed_paths world) old path then row else None)
+    left_at : (path : List ℕ) (row : Option ShownRow) → old path ≡ row
+        → row ≡ (if is_fresh_of (needed_paths world) old path then row else None)
     left_at path None is = by (is_fresh_of (needed_paths world) old path)
       where
         by : (b : Bool) → ◌≡◌ {A = Option ShownRow} None (if b then None else None)
@@ -75,13 +81,16 @@ module _ (world : World) (old : ShownRows) (last : LastStage) (end : IsAtEnd wor
     }
 
 -- the others are taken out
-module _ (world : World) (before after : Entries) (last : LastStage) (end : IsAtEnd world (shown no_name before) last) (beside : Vec (String Global) Global) (known : AreNeededBeside world beside) (others : Vec (String Global) Global)
-    (are : (path : List ℕ) → is_one_of path (map string_bytes others.items) ≡ (is_some (before path) && not (row_stays last (map string_bytes beside.items) path)))
+module _ (world : World) (before after : Entries) (last : LastStage) (end : IsAtEnd world (shown no_name before) last)
+    (beside : Vec (String Global) Global) (known : AreNeededBeside world beside) (others : Vec (String Global) Global)
+    (are : (path : List ℕ) → is_one_of path (map string_bytes others.items) ≡
+        (is_some (before path) && not (row_stays last (map string_bytes beside.items) path)))
     (left : (path : List ℕ) → after path ≡ (if row_stays last (map string_bytes beside.items) path then before path else None)) where
   abbrev old : ShownRows
   old = shown no_name before
 
-  shown_if : (b : Bool) (stored : Option StoredValue) → option_and_then (show_stored no_name) (if b then stored else None) ≡ (if b then option_and_then (show_stored no_name) stored else None)
+  shown_if : (b : Bool) (stored : Option StoredValue) → option_and_then (show_stored no_name) (if b then stored else None) ≡
+      (if b then option_and_then (show_stored no_name) stored else None)
   shown_if true stored = refl
   shown_if false stored = refl
 
@@ -89,21 +98,26 @@ module _ (world : World) (before after : Entries) (last : LastStage) (end : IsAt
   stored_there None some = absurd (false≢true some)
   stored_there (Some stored) some = refl
 
-  one_by : (path : List ℕ) (kept : Bool) → is_fresh_of (needed_paths world) old path ≡ kept → is_one_of path (map string_bytes others.items) ≡ (is_some (before path) && not kept)
+  one_by : (path : List ℕ) (kept : Bool) → is_fresh_of (needed_paths world) old path ≡ kept → is_one_of path (map string_bytes others.items)
+      ≡ (is_some (before path) && not kept)
   one_by path kept is = are path ∙ ap (λ b. is_some (before path) && not b) (kept-fresh world old last end beside known path ∙ is)
 
   pub leaves-others : LeavesFresh (needed_paths world) old (shown no_name after) others
   leaves-others = record {
-    left = λ path. ap (option_and_then (show_stored no_name)) (left path) ∙ shown_if (row_stays last (map string_bytes beside.items) path) (before path)
+    left = λ path. ap (option_and_then (show_stored no_name)) (left path)
+        ∙ shown_if (row_stays last (map string_bytes beside.items) path) (before path)
         ∙ ap (λ (b : Bool). if b then old path else None) (kept-fresh world old last end beside known path);
     apart = λ path is. one_by path true is ∙ and_false (is_some (before path));
     all = λ path is some. one_by path false is ∙ ap (λ b. b && true) (stored_there (before path) some);
   }
 
-pub leaves-taken : (world : World) (before after : Entries) (last : LastStage) → IsAtEnd world (shown no_name before) last → (beside : Vec (String Global) Global) → AreNeededBeside world beside
+pub leaves-taken : (world : World) (before after : Entries) (last : LastStage) → IsAtEnd world (shown no_name before) last
+    → (beside : Vec (String Global) Global) → AreNeededBeside world beside
     → (result : Result (Vec (String Global) Global) FilesFault)
-    → IfOk result (λ others. (path : List ℕ) → is_one_of path (map string_bytes others.items) ≡ (is_some (before path) && not (row_stays last (map string_bytes beside.items) path)))
+    → IfOk result (λ others. (path : List ℕ) → is_one_of path (map string_bytes others.items) ≡
+        (is_some (before path) && not (row_stays last (map string_bytes beside.items) path)))
     → OnOk result ((path : List ℕ) → after path ≡ (if row_stays last (map string_bytes beside.items) path then before path else None))
     → IfOk result (LeavesFresh (needed_paths world) (shown no_name before) (shown no_name after))
-leaves-taken world before after last end beside known (Ok others) are left = leaves-others world before after last end beside known others are left
+leaves-taken world before after last end beside known (Ok others) are left = leaves-others world before after last end
+    beside known others are left
 leaves-taken world before after last end beside known (Err fault) are left = tt

@@ -1,5 +1,7 @@
 -- What a change of a file, and what is known of changes, makes of rows; and what is left of a refresh.
-use Rattle.std.proofs.Common.{◌≡◌, ◌⊎◌, inl, inr, ◌∙◌, sym, ap, subst, refl, ℕ, ◌+◌, Bool, true, false, ◌||◌, ◌&&◌, not, if◌then◌else◌, List, [], ◌∷◌, Result, Ok, Err, OnOk, OnErr, Option, Some, None, IfSome, is_some, is_none, option_map, option_and_then, String, Global, string_bytes}
+use Rattle.std.proofs.Common.{◌≡◌, ◌⊎◌, inl, inr, ◌∙◌, sym, ap, subst, refl, ℕ, ◌+◌, Bool, true, false, ◌||◌, ◌&&◌, not, if◌then◌else◌}
+use Rattle.std.proofs.Common.{List, [], ◌∷◌, Result, Ok, Err, OnOk, OnErr, Option, Some, None, IfSome, is_some, is_none, option_map}
+use Rattle.std.proofs.Common.{option_and_then, String, Global, string_bytes}
 use Rattle.std.proofs.lemmas.Bool.{false≢true, and_parts, or_right}
 use Rattle.std.proofs.lemmas.Slice.Eq.{bytes_eq-Decides}
 use Rattle.std.specs.BTreeSet.{BTreeSet, contains_text, keys}
@@ -32,12 +34,15 @@ use Rattle.index_store.specs.Entries.{StoredValue, Entries}
 use Rattle.index_keep.specs.declared.last_index.HeldIndex.{HeldIndex}
 use Rattle.index_keep.specs.declared.keeper.Progress.{Progress}
 use Rattle.index_keep.specs.declared.keeper.Progress.TheVariants.{Changed, Walking, Asking, Current, AtHand}
-use Rattle.index_keep.specs.Shown.{ShownRow, ShownRows, shown, show_row, show_stored, asked_one, no_name, fresh, fresh_outcome, said_in_row, stale_if_asked, ShowsSame}
+use Rattle.index_keep.specs.Shown.{ShownRow, ShownRows, shown, show_row, show_stored, asked_one, no_name, fresh, fresh_outcome, said_in_row}
+use Rattle.index_keep.specs.Shown.{stale_if_asked, ShowsSame}
 use Rattle.index_keep.specs.Last.{IsHeld, IsLast, SaysAll, Serves, needed_before}
-use Rattle.index_keep.specs.Right.{names_in, row_with, IsRightRow, AreKept, AreCurrent, HaveFresh, DifferAt, RenewsOneOf, fresh_row, is_evaluated}
+use Rattle.index_keep.specs.Right.{names_in, row_with, IsRightRow, AreKept, AreCurrent, HaveFresh, DifferAt, RenewsOneOf, fresh_row}
+use Rattle.index_keep.specs.Right.{is_evaluated}
 use Rattle.turn_amounts.specs.Spent.{no_spending}
 use Rattle.index_keep.specs.Turns.{DropsTurn, paths_left, refresh_at}
-use Rattle.index_keep.specs.Keeper.{changed_in, begun_in, last_in, stays_there, DropsTo, IsKept, IsProgress, HasForgotten, Halts, Stops, TellsPresence}
+use Rattle.index_keep.specs.Keeper.{changed_in, begun_in, last_in, stays_there, DropsTo, IsKept, IsProgress, HasForgotten, Halts, Stops}
+use Rattle.index_keep.specs.Keeper.{TellsPresence}
 use Rattle.index_keep.specs.declared.keeper.Keeper.{Keeper}
 use Rattle.index_keep.proofs.ShownLemmas.{shown-test}
 use Rattle.index_keep.proofs.WalkLemmas.{lacking-there, listed-has, needed-has}
@@ -45,11 +50,13 @@ use Rattle.index_keep.proofs.WalkLemmas.{lacking-there, listed-has, needed-has}
 -- ---- another world, which differs at one name
 
 module _ (name : List ℕ) (world other : World) (differ : DifferAt name world other) where
-  reply_of : (file : List ℕ) (reply : Reply) → bytes_eq name file ≡ false → IsReply (files_in world) file reply → IsReply (files_in other) file reply
+  reply_of : (file : List ℕ) (reply : Reply) → bytes_eq name file ≡ false → IsReply (files_in world) file reply
+      → IsReply (files_in other) file reply
   reply_of file (Presence there) apart is = is ∙ ap is_some (sym (differ.files file apart))
   reply_of file (Contents content) apart is = is ∙ sym (differ.files file apart)
 
-  agrees_too : (questions : List Question) → list_any (λ asked. bytes_eq name asked) (names_in questions) ≡ false → Agrees (files_in world) questions → Agrees (files_in other) questions
+  agrees_too : (questions : List Question) → list_any (λ asked. bytes_eq name asked) (names_in questions) ≡ false
+      → Agrees (files_in world) questions → Agrees (files_in other) questions
   agrees_too [] apart agrees = tt
   agrees_too ((file, reply) ∷ questions) apart agrees = (
     reply_of file reply (first (bytes_eq name file) (list_any (λ asked. bytes_eq name asked) (names_in questions)) apart) agrees.0,
@@ -65,35 +72,49 @@ module _ (name : List ℕ) (world other : World) (differ : DifferAt name world o
       rest false b e = e
 
   module _ (law : PathIsTheSameWhereAnswered) where
-    right_in : (settings : _) → settings ≡ world.1 → (path : List ℕ) → list_any (λ asked. bytes_eq name asked) (names_in (questions_at world path)) ≡ false
+    right_in : (settings : _) → settings ≡ world.1 → (path : List ℕ) → list_any (λ asked. bytes_eq name asked)
+        (names_in (questions_at world path)) ≡ false
         → Agrees (files_in world) (questions_at world path)
         → (finding_at (other.0, settings) path ≡ finding_at world path) × (questions_at (other.0, settings) path ≡ questions_at world path)
     right_in settings e path apart agrees =
-        subst (λ (s : _). (finding_at (other.0, s) path ≡ finding_at world path) × (questions_at (other.0, s) path ≡ questions_at world path)) (sym e)
+        subst (λ (s : _). (finding_at (other.0, s) path ≡ finding_at world path)
+            × (questions_at (other.0, s) path ≡ questions_at world path)) (sym e)
         (law world.0 other.0 world.1 path (agrees_too (questions_at world path) apart agrees))
 
-    right_too : (path : List ℕ) (row : RowValue) → list_any (λ asked. bytes_eq name asked) row.names ≡ false → IsRightRow world path row → IsRightRow other path row
+    right_too : (path : List ℕ) (row : RowValue) → list_any (λ asked. bytes_eq name asked) row.names ≡ false → IsRightRow world path row
+        → IsRightRow other path row
     right_too path row apart right =
-        let apart' : list_any (λ asked. bytes_eq name asked) (names_in (questions_at world path)) ≡ false = ap (λ (r : RowValue). list_any (λ asked. bytes_eq name asked) r.names) (sym right.same) ∙ apart in
+        let apart' : list_any (λ asked. bytes_eq name asked) (names_in (questions_at world path)) ≡ false =
+            ap (λ (r : RowValue). list_any (λ asked. bytes_eq name asked) r.names) (sym right.same) ∙ apart in
         let same = right_in other.1 differ.settings path apart' right.answered in
         record {
-          same = right.same ∙ sym (rows (finding_at other path) (finding_at world path) (questions_at other path) (questions_at world path) same.0 same.1);
-          answered = subst (λ questions. Agrees (files_in other) questions) (sym same.1) (agrees_too (questions_at world path) apart' right.answered);
+          same = right.same ∙ sym (rows (finding_at other path) (finding_at world path) (questions_at other path)
+              (questions_at world path) same.0 same.1);
+          answered = subst (λ questions. Agrees (files_in other) questions) (sym same.1)
+              (agrees_too (questions_at world path) apart' right.answered);
         }
       where
-        rows : (one other : Finding) (questions more : List Question) → one ≡ other → questions ≡ more → row_with one questions ≡ row_with other more
+        rows : (one other : Finding) (questions more : List Question) → one ≡ other → questions ≡ more
+            → row_with one questions ≡ row_with other more
         rows one other questions more e f = ap (λ found. row_with found questions) e ∙ ap (row_with other) f
 
-    module _ (old new : ShownRows) (noted : (path : List ℕ) → new path ≡ option_map (stale_if_asked name) (old path)) (kept : AreKept world old) where
+    module _ (old new : ShownRows) (noted : (path : List ℕ) → new path ≡ option_map (stale_if_asked name) (old path))
+        (kept : AreKept world old) where
       kept_by : (path : List ℕ) (row before : ShownRow) → old path ≡ Some before → stale_if_asked name before ≡ row → (stale asked : Bool)
-          → before.stale ≡ stale → asked_one (λ asked. bytes_eq name asked) before.row ≡ asked → row.stale ≡ false → IsRightRow other path row.row × (is_there row.row.outcome ≡ true)
-      kept_by path row before was is true asked e f fresh = absurd (false≢true (sym (ap (λ (r : ShownRow). r.stale) is ∙ fresh) ∙ ap (λ b. b || asked_one (λ asked. bytes_eq name asked) before.row) e))
+          → before.stale ≡ stale → asked_one (λ asked. bytes_eq name asked) before.row ≡ asked → row.stale ≡ false
+          → IsRightRow other path row.row × (is_there row.row.outcome ≡ true)
+      kept_by path row before was is true asked e f fresh =
+          absurd (false≢true (sym (ap (λ (r : ShownRow). r.stale) is ∙ fresh)
+          ∙ ap (λ b. b || asked_one (λ asked. bytes_eq name asked) before.row) e))
       kept_by path row before was is false true e f fresh =
-          absurd (false≢true (sym (ap (λ (r : ShownRow). r.stale) is ∙ fresh) ∙ ap (λ b. b || asked_one (λ asked. bytes_eq name asked) before.row) e ∙ f))
+          absurd (false≢true (sym (ap (λ (r : ShownRow). r.stale) is ∙ fresh)
+              ∙ ap (λ b. b || asked_one (λ asked. bytes_eq name asked) before.row) e ∙ f))
       kept_by path row before was is false false e f fresh =
-          subst (λ (r : ShownRow). IsRightRow other path r.row × (is_there r.row.outcome ≡ true)) is (right_too path before.row f (kept.right path before was e), kept.there path before was e)
+          subst (λ (r : ShownRow). IsRightRow other path r.row × (is_there r.row.outcome ≡ true)) is
+              (right_too path before.row f (kept.right path before was e), kept.there path before was e)
 
-      kept_at : (path : List ℕ) (before : Option ShownRow) → old path ≡ before → (row : ShownRow) → new path ≡ Some row → row.stale ≡ false → IsRightRow other path row.row × (is_there row.row.outcome ≡ true)
+      kept_at : (path : List ℕ) (before : Option ShownRow) → old path ≡ before → (row : ShownRow) → new path ≡ Some row → row.stale ≡ false
+          → IsRightRow other path row.row × (is_there row.row.outcome ≡ true)
       kept_at path None was row is fresh =
           let none : new path ≡ None = noted path ∙ ap (option_map (stale_if_asked name)) was in absurd cc
       kept_at path (Some before) was row is fresh =
@@ -121,7 +142,8 @@ AreKept-same world old new same kept = record {
 }
 
 -- a keeper whose rows store the same is still right
-pub IsKept-same : {R : Type 0} (entries : R → Entries) (world : World) (old new : R) (progress : Progress) → ((path : List ℕ) → entries new path ≡ entries old path)
+pub IsKept-same : {R : Type 0} (entries : R → Entries) (world : World) (old new : R) (progress : Progress)
+    → ((path : List ℕ) → entries new path ≡ entries old path)
     → (let before : Keeper R = record { rows = old; progress = progress } in IsKept entries world before)
     → (let after : Keeper R = record { rows = new; progress = progress } in IsKept entries world after)
 IsKept-same entries world old new progress same kept =
@@ -152,7 +174,8 @@ begun-forgotten (AtHand index) none = absurd none
 
 -- ---- a refresh that is stopped
 
-pub shown-halted : (entries : Entries) (old new : Progress) → Halts old new → ShowsSame (shown (changed_in old) entries) (shown (changed_in new) entries)
+pub shown-halted : (entries : Entries) (old new : Progress) → Halts old new → ShowsSame (shown (changed_in old) entries)
+    (shown (changed_in new) entries)
 shown-halted entries (Changed names last) new is path = ap (λ (p : Progress). shown (changed_in p) entries path) is
 shown-halted entries (Walking walk) new none path = shown-test (changed_in new) no_name entries (forgotten new none) path
 shown-halted entries (Asking walk ask) new none path = shown-test (changed_in new) no_name entries (forgotten new none) path
@@ -160,16 +183,19 @@ shown-halted entries (Current paths) new is path = ap (λ (p : Progress). shown 
 shown-halted entries (AtHand index) new is path = ap (λ (p : Progress). shown (changed_in p) entries path) is
 
 pub IsProgress-forgotten : (world : World) (rows : ShownRows) (progress : Progress) → HasForgotten progress → IsProgress world rows progress
-IsProgress-forgotten world rows (Changed names last) none = subst (λ (l : Option HeldIndex). IfSome l (IsHeld (contains_text names) world rows)) (sym none.1) tt
+IsProgress-forgotten world rows (Changed names last) none =
+    subst (λ (l : Option HeldIndex). IfSome l (IsHeld (contains_text names) world rows)) (sym none.1) tt
 IsProgress-forgotten world rows (Walking walk) none = absurd none
 IsProgress-forgotten world rows (Asking walk ask) none = absurd none
 IsProgress-forgotten world rows (Current paths) none = absurd none
 IsProgress-forgotten world rows (AtHand index) none = absurd none
 
 -- a refresh that goes on as before, or not at all, over rows that are shown the same
-pub IsProgress-stopped : (world : World) (rows new : ShownRows) (old after : Progress) → Stops old after → ShowsSame rows new → IsProgress world rows old → IsProgress world new after
+pub IsProgress-stopped : (world : World) (rows new : ShownRows) (old after : Progress) → Stops old after → ShowsSame rows new
+    → IsProgress world rows old → IsProgress world new after
 IsProgress-stopped world rows new old after (inl same) shows is =
-    subst (λ (p : Progress). IsProgress world new p) (sym same) (subst (λ (r : ShownRows). IsProgress world r old) (λ i path. sym (shows path) i) is)
+    subst (λ (p : Progress). IsProgress world new p) (sym same)
+        (subst (λ (r : ShownRows). IsProgress world r old) (λ i path. sym (shows path) i) is)
 IsProgress-stopped world rows new old after (inr none) shows is = IsProgress-forgotten world new after none
 
 pub IsKept-stopped : {R : Type 0} (entries : R → Entries) (world : World) (old new : R) (before after : Progress) → Stops before after
@@ -178,7 +204,8 @@ pub IsKept-stopped : {R : Type 0} (entries : R → Entries) (world : World) (old
     → (let other : Keeper R = record { rows = new; progress = after } in IsKept entries world other)
 IsKept-stopped entries world old new before after stops shows kept = record {
   rows = AreKept-same world (shown (changed_in before) (entries old)) (shown (changed_in after) (entries new)) shows kept.rows;
-  progress = IsProgress-stopped world (shown (changed_in before) (entries old)) (shown (changed_in after) (entries new)) before after stops shows kept.progress;
+  progress = IsProgress-stopped world (shown (changed_in before) (entries old)) (shown (changed_in after) (entries new)) before after
+      stops shows kept.progress;
 }
 
 either-halted : (old new : Progress) → Halts old new → HasForgotten new ⊎ (new ≡ old)
@@ -193,10 +220,12 @@ pub IsKept-halted : {R : Type 0} (entries : R → Entries) (world : World) (rows
     → (let after : Keeper R = record { rows = rows; progress = new } in IsKept entries world after)
 IsKept-halted {R = R} entries world rows old new halts kept = elim (either-halted old new halts) [
   | inl none ↦ record {
-    rows = AreKept-same world (shown (changed_in old) (entries rows)) (shown (changed_in new) (entries rows)) (shown-halted (entries rows) old new halts) kept.rows;
+    rows = AreKept-same world (shown (changed_in old) (entries rows)) (shown (changed_in new) (entries rows))
+        (shown-halted (entries rows) old new halts) kept.rows;
     progress = IsProgress-forgotten world (shown (changed_in new) (entries rows)) new none;
   }
-  | inr same ↦ subst (λ (p : Progress). let keeper : Keeper R = record { rows = rows; progress = p } in IsKept entries world keeper) (sym same) kept
+  | inr same ↦ subst (λ (p : Progress). let keeper : Keeper R = record { rows = rows; progress = p } in IsKept entries world keeper)
+      (sym same) kept
 ]
 
 module _ (name : List ℕ) (one more : List ℕ → Bool) (is : (other : List ℕ) → more other ≡ (bytes_eq name other || one other)) where
@@ -221,13 +250,16 @@ module _ (name : List ℕ) (one more : List ℕ → Bool) (is : (other : List �
   row_more : (marked : Bool) (row : RowValue) → show_row more marked row ≡ stale_if_asked name (show_row one marked row)
   row_more marked row =
       ap (λ (stale : Bool). let found : ShownRow = record { row = row; stale = stale } in found)
-      (ap (λ b. marked || b) (asked_more row.names) ∙ regroup marked (list_any one row.names) (list_any (λ asked. bytes_eq name asked) row.names))
+      (ap (λ b. marked || b) (asked_more row.names) ∙ regroup marked (list_any one row.names)
+          (list_any (λ asked. bytes_eq name asked) row.names))
 
-  text_more : (marked : Bool) (row : Option RowValue) → option_map (show_row more marked) row ≡ option_map (stale_if_asked name) (option_map (show_row one marked) row)
+  text_more : (marked : Bool) (row : Option RowValue) → option_map (show_row more marked) row ≡ option_map (stale_if_asked name)
+      (option_map (show_row one marked) row)
   text_more marked None = refl
   text_more marked (Some row) = ap Some (row_more marked row)
 
-  stored_more : (stored : Option StoredValue) → option_and_then (show_stored more) stored ≡ option_map (stale_if_asked name) (option_and_then (show_stored one) stored)
+  stored_more : (stored : Option StoredValue) → option_and_then (show_stored more) stored ≡ option_map (stale_if_asked name)
+      (option_and_then (show_stored one) stored)
   stored_more None = refl
   stored_more (Some stored) = text_more stored.stale (row_of stored.text)
 
@@ -243,13 +275,16 @@ module _ (name : List ℕ) (one more : List ℕ → Bool) (is : (other : List �
   still_there None = refl
   still_there (Some row) = refl
 
-  module _ (old new : ShownRows) (index : KnownIndex) (noted : (path : List ℕ) → new path ≡ option_map (stale_if_asked name) (old path)) (last : IsLast one old index) where
-    stale_at : (path : List ℕ) (before : Option ShownRow) → old path ≡ before → (row : ShownRow) → option_map (stale_if_asked name) before ≡ Some row → row.stale ≡ asked_one more row.row
+  module _ (old new : ShownRows) (index : KnownIndex) (noted : (path : List ℕ) → new path ≡ option_map (stale_if_asked name) (old path))
+      (last : IsLast one old index) where
+    stale_at : (path : List ℕ) (before : Option ShownRow) → old path ≡ before → (row : ShownRow) → option_map (stale_if_asked name) before ≡
+        Some row → row.stale ≡ asked_one more row.row
     stale_at path None was row is = absurd cc
     stale_at path (Some before) was row is =
         let same : stale_if_asked name before ≡ row = cc in
         subst (λ (r : ShownRow). r.stale ≡ asked_one more r.row) same
-        (ap (λ b. b || asked_one (λ asked. bytes_eq name asked) before.row) (last.stale path before was) ∙ sym (asked_more before.row.names))
+        (ap (λ b. b || asked_one (λ asked. bytes_eq name asked) before.row) (last.stale path before was)
+            ∙ sym (asked_more before.row.names))
 
     -- an index of before the last changes is one of before this change too
     pub IsLast-noted : IsLast more new index
@@ -261,7 +296,8 @@ module _ (name : List ℕ) (one more : List ℕ → Bool) (is : (other : List �
     }
 
   -- it serves over rows that are noted
-  pub Serves-noted : (world : World) (old new : ShownRows) (index : KnownIndex) → ((path : List ℕ) → new path ≡ option_map (stale_if_asked name) (old path))
+  pub Serves-noted : (world : World) (old new : ShownRows) (index : KnownIndex)
+      → ((path : List ℕ) → new path ≡ option_map (stale_if_asked name) (old path))
       → Serves world old index → Serves world new index
   Serves-noted world old new index noted serves = record {
     directories = serves.directories;
@@ -275,7 +311,8 @@ asked_nobody : (names : List (List ℕ)) → list_any no_name names ≡ false
 asked_nobody [] = refl
 asked_nobody (name ∷ names) = asked_nobody names
 
-module _ (enough : KnownRowsAreEnough) (world : World) (rows : ShownRows) (index : KnownIndex) (current : AreCurrent world rows) (is : IsIndexOf world index) (says : SaysAll rows index.rows) where
+module _ (enough : KnownRowsAreEnough) (world : World) (rows : ShownRows) (index : KnownIndex) (current : AreCurrent world rows)
+    (is : IsIndexOf world index) (says : SaysAll rows index.rows) where
   need_if : (need there : Bool) (row : ShownRow) → is_some (if need && there then Some row else None) ≡ true → need ≡ true
   need_if true there row some = refl
   need_if false there row some = absurd (false≢true some)
@@ -290,7 +327,8 @@ module _ (enough : KnownRowsAreEnough) (world : World) (rows : ShownRows) (index
   none_if true false row one none = refl
   none_if false there row one none = absurd (false≢true one)
 
-  fresh_if : (path : List ℕ) (needed : Bool) (row : ShownRow) → (if needed then Some (fresh_row world path) else None) ≡ Some row → row.stale ≡ asked_one no_name row.row
+  fresh_if : (path : List ℕ) (needed : Bool) (row : ShownRow) → (if needed then Some (fresh_row world path) else None) ≡ Some row
+      → row.stale ≡ asked_one no_name row.row
   fresh_if path true row same =
       let one : fresh_row world path ≡ row = cc in
       subst (λ (r : ShownRow). r.stale ≡ asked_one no_name r.row) one (sym (asked_nobody (fresh_row world path).row.names))
@@ -308,20 +346,24 @@ module _ (enough : KnownRowsAreEnough) (world : World) (rows : ShownRows) (index
         ∙ sym (ap (listed_from (known_in (entries_in index.rows))) is.paths.directories
         ∙ enough.listed world (entries_in index.rows) (λ path one. is.rows path (needed-has world path (listed-has world path one))));
     needed = λ path some. ap (is_one_of path) needed_as
-        ∙ need_if (is_one_of path (needed_paths world)) (has_makefile world path) (fresh_row world path) (sym (ap is_some (current.each path)) ∙ some);
+        ∙ need_if (is_one_of path (needed_paths world)) (has_makefile world path) (fresh_row world path)
+            (sym (ap is_some (current.each path)) ∙ some);
     stale = λ path row there. fresh_if path (is_evaluated world path) row (sym (current.each path) ∙ there);
   }
 
   pub Serves-current : Serves world rows index
   Serves-current = record {
     directories = is.paths.directories;
-    there = λ path some. there_if (is_one_of path (needed_paths world)) (has_makefile world path) (fresh_row world path) (sym (ap is_some (current.each path)) ∙ some);
+    there = λ path some. there_if (is_one_of path (needed_paths world)) (has_makefile world path) (fresh_row world path)
+        (sym (ap is_some (current.each path)) ∙ some);
     missing = λ path one none. none_if (is_one_of path (needed_paths world)) (has_makefile world path) (fresh_row world path)
         (ap (is_one_of path) (sym needed_as) ∙ one) (sym (ap is_some (current.each path)) ∙ none);
   }
 
-module _ (enough : KnownRowsAreEnough) (serve : SameMakefilesServe) (name : List ℕ) (world other : World) (differ : DifferAt name world other)
-    (is_there : Bool) (tells : TellsPresence world name is_there) (rows noted : ShownRows) (notes : (path : List ℕ) → noted path ≡ option_map (stale_if_asked name) (rows path)) where
+module _ (enough : KnownRowsAreEnough) (serve : SameMakefilesServe) (name : List ℕ) (world other : World)
+    (differ : DifferAt name world other)
+    (is_there : Bool) (tells : TellsPresence world name is_there) (rows noted : ShownRows) (notes : (path : List ℕ)
+        → noted path ≡ option_map (stale_if_asked name) (rows path)) where
   module _ (one more : List ℕ → Bool) (adds : (file : List ℕ) → more file ≡ (bytes_eq name file || one file))
       (stays : stays_there name is_there ≡ true) (now : AreThere more (files_in other)) where
     told : (there makefile : Bool) → (there || not makefile) ≡ true → makefile ≡ true → there ≡ true
@@ -335,10 +377,12 @@ module _ (enough : KnownRowsAreEnough) (serve : SameMakefilesServe) (name : List
     named : (file : List ℕ) → bytes_eq name file ≡ true → more file ≡ true
     named file same = adds file ∙ ap (λ b. b || one file) same
 
-    same_at : (file : List ℕ) (same : Bool) → bytes_eq name file ≡ same → is_makefile file ≡ true → contains_key (files_in other) file ≡ contains_key (files_in world) file
+    same_at : (file : List ℕ) (same : Bool) → bytes_eq name file ≡ same → is_makefile file ≡ true → contains_key (files_in other) file ≡
+        contains_key (files_in world) file
     same_at file true same makefile =
         now file (named file same) makefile
-        ∙ sym (ap (contains_key (files_in world)) (sym ((bytes_eq-Decides name file).0 same)) ∙ was_there (ap is_makefile ((bytes_eq-Decides name file).0 same) ∙ makefile))
+        ∙ sym (ap (contains_key (files_in world)) (sym ((bytes_eq-Decides name file).0 same))
+            ∙ was_there (ap is_makefile ((bytes_eq-Decides name file).0 same) ∙ makefile))
     same_at file false same makefile = ap is_some (differ.files file same)
 
     same_makefiles : SameMakefiles (files_in world) (files_in other)
@@ -358,22 +402,27 @@ module _ (enough : KnownRowsAreEnough) (serve : SameMakefilesServe) (name : List
       missing = λ path needed none. makefiles_as path ∙ serves.missing path needed none;
     }
 
-    before_at : (file : List ℕ) (same : Bool) → bytes_eq name file ≡ same → one file ≡ true → is_makefile file ≡ true → contains_key (files_in world) file ≡ true
+    before_at : (file : List ℕ) (same : Bool) → bytes_eq name file ≡ same → one file ≡ true → is_makefile file ≡ true
+        → contains_key (files_in world) file ≡ true
     before_at file true same changed makefile =
-        ap (contains_key (files_in world)) (sym ((bytes_eq-Decides name file).0 same)) ∙ was_there (ap is_makefile ((bytes_eq-Decides name file).0 same) ∙ makefile)
-    before_at file false same changed makefile = sym (same_at file false same makefile) ∙ now file (adds file ∙ or_right (bytes_eq name file) (one file) changed) makefile
+        ap (contains_key (files_in world)) (sym ((bytes_eq-Decides name file).0 same))
+            ∙ was_there (ap is_makefile ((bytes_eq-Decides name file).0 same) ∙ makefile)
+    before_at file false same changed makefile = sym (same_at file false same makefile)
+        ∙ now file (adds file ∙ or_right (bytes_eq name file) (one file) changed) makefile
 
     pub were_before : AreThere one (files_in world)
     were_before file changed makefile = before_at file (bytes_eq name file) refl changed makefile
 
-  held_of : (old : Progress) → IsProgress world rows old → (more : List ℕ → Bool) → ((file : List ℕ) → more file ≡ (bytes_eq name file || changed_in old file))
+  held_of : (old : Progress) → IsProgress world rows old → (more : List ℕ → Bool)
+      → ((file : List ℕ) → more file ≡ (bytes_eq name file || changed_in old file))
       → IfSome (last_in (stays_there name is_there) old) (IsHeld more other noted)
   held_of (Changed names (Some held)) is more adds = record {
     last = IsLast-noted name (contains_text names) more adds rows noted held.index notes is.last;
     serves = λ were now.
         let both = and_parts held.were_there (stays_there name is_there) were in
         Serves-noted name (contains_text names) more adds other rows noted held.index notes
-        (Serves-still (contains_text names) more adds both.1 now rows held.index (is.serves both.0 (were_before (contains_text names) more adds both.1 now)));
+        (Serves-still (contains_text names) more adds both.1 now rows held.index
+            (is.serves both.0 (were_before (contains_text names) more adds both.1 now)));
   }
   held_of (Changed names None) is more adds = tt
   held_of (Walking walk) is more adds = tt
@@ -389,7 +438,8 @@ module _ (enough : KnownRowsAreEnough) (serve : SameMakefilesServe) (name : List
   pub IsProgress-noted : (old new : Progress) → IsProgress world rows old → DropsTo (stays_there name is_there) old new
       → ((file : List ℕ) → changed_in new file ≡ (bytes_eq name file || changed_in old file)) → IsProgress other noted new
   IsProgress-noted old (Changed names last) is drops adds =
-      subst (λ (l : Option HeldIndex). IfSome l (IsHeld (contains_text names) other noted)) (sym drops) (held_of old is (contains_text names) adds)
+      subst (λ (l : Option HeldIndex). IfSome l (IsHeld (contains_text names) other noted)) (sym drops)
+          (held_of old is (contains_text names) adds)
   IsProgress-noted old (Walking walk) is drops adds = absurd drops
   IsProgress-noted old (Asking walk ask) is drops adds = absurd drops
   IsProgress-noted old (Current paths) is drops adds = absurd drops
@@ -397,8 +447,11 @@ module _ (enough : KnownRowsAreEnough) (serve : SameMakefilesServe) (name : List
 
 -- ---- what is left of a refresh
 
-module _ (law : OneRowMoreLeavesLess) (world : World) (old new : ShownRows) (spent : Spent) (renews : RenewsOneOf world (needed_paths world) old new spent) where
-  fresh_put : (other : List ℕ) (same : Bool) → option_and_then fresh_outcome (if same then Some (fresh_row world renews.path) else old other) ≡ (if same then Some (outcome_at world renews.path) else fresh old other)
+module _ (law : OneRowMoreLeavesLess) (world : World) (old new : ShownRows) (spent : Spent)
+    (renews : RenewsOneOf world (needed_paths world) old new spent) where
+  fresh_put : (other : List ℕ) (same : Bool)
+      → option_and_then fresh_outcome (if same then Some (fresh_row world renews.path) else old other) ≡
+      (if same then Some (outcome_at world renews.path) else fresh old other)
   fresh_put other true = refl
   fresh_put other false = refl
 
@@ -406,22 +459,27 @@ module _ (law : OneRowMoreLeavesLess) (world : World) (old new : ShownRows) (spe
   decides there row = if there then row else Some Absent
 
   outcome_there : (other : List ℕ) (same : Bool) → bytes_eq renews.path other ≡ same
-      → decides (has_makefile world other) (if same then Some (outcome_at world renews.path) else fresh old other) ≡ (if same || false then Some (outcome_at world other) else decided world (fresh old) other)
+      → decides (has_makefile world other) (if same then Some (outcome_at world renews.path) else fresh old other) ≡
+          (if same || false then Some (outcome_at world other) else decided world (fresh old) other)
   outcome_there other true same =
-      subst (λ at. decides (has_makefile world at) (Some (outcome_at world renews.path)) ≡ Some (outcome_at world at)) ((bytes_eq-Decides renews.path other).0 same)
+      subst (λ at. decides (has_makefile world at) (Some (outcome_at world renews.path)) ≡ Some (outcome_at world at))
+          ((bytes_eq-Decides renews.path other).0 same)
       (ap (λ b. decides b (Some (outcome_at world renews.path))) (lacking-there world (fresh old) renews.path renews.lacking).0)
   outcome_there other false same = refl
 
   fills : Fills world (renews.path ∷ []) (decided world (fresh old)) (decided world (fresh new))
   fills = record {
-    filled = λ other. ap (decides (has_makefile world other)) (ap (option_and_then fresh_outcome) (renews.rows other) ∙ fresh_put other (bytes_eq renews.path other))
+    filled = λ other. ap (decides (has_makefile world other)) (ap (option_and_then fresh_outcome) (renews.rows other)
+        ∙ fresh_put other (bytes_eq renews.path other))
         ∙ outcome_there other (bytes_eq renews.path other) refl;
   }
 
   pub left_less : (weight : List ℕ → ℕ) → weight renews.path + sum_by weight (paths_left world new) ≡ sum_by weight (paths_left world old)
-  left_less weight = law world weight (needed_paths world) renews.path (decided world (fresh old)) (decided world (fresh new)) renews.needed renews.lacking fills
+  left_less weight = law world weight (needed_paths world) renews.path (decided world (fresh old)) (decided world (fresh new))
+      renews.needed renews.lacking fills
 
-none_left : (entries : List ℕ → Option PathOutcome) (paths : List (List ℕ)) → ((path : List ℕ) → is_one_of path paths ≡ true → is_some (entries path) ≡ true)
+none_left : (entries : List ℕ → Option PathOutcome) (paths : List (List ℕ))
+    → ((path : List ℕ) → is_one_of path paths ≡ true → is_some (entries path) ≡ true)
     → filter (λ path. is_none (entries path)) paths ≡ []
 none_left entries [] have = refl
 none_left entries (path ∷ paths) have =
@@ -436,7 +494,8 @@ none_left entries (path ∷ paths) have =
 -- where each needed path has a fresh row, nothing is left to be done
 pub lacking-none : (world : World) (rows : ShownRows) → HaveFresh world rows → paths_left world rows ≡ []
 lacking-none world rows have =
-    none_left (decided world (fresh rows)) (in_order (needed_paths world)) (λ path is. have path (sym (among-in_order (λ one. bytes_eq one path) (needed_paths world)) ∙ is))
+    none_left (decided world (fresh rows)) (in_order (needed_paths world))
+        (λ path is. have path (sym (among-in_order (λ one. bytes_eq one path) (needed_paths world)) ∙ is))
 
 -- rows that are current are fresh
 pub HaveFresh-current : (world : World) (rows : ShownRows) → AreCurrent world rows → HaveFresh world rows
@@ -445,7 +504,8 @@ HaveFresh-current world rows current path is =
     (current.each path ∙ ap (λ (b : Bool). if b && has_makefile world path then Some (fresh_row world path) else None) is)
     ∙ by (has_makefile world path)
   where
-    by : (there : Bool) → is_some (if there then option_and_then fresh_outcome (if there then Some (fresh_row world path) else None) else Some Absent) ≡ true
+    by : (there : Bool) → is_some (if there then option_and_then fresh_outcome (if there then Some (fresh_row world path) else None)
+        else Some Absent) ≡ true
     by true = refl
     by false = refl
 
@@ -465,13 +525,15 @@ OnOk-or (Err fault) p q f = f q
 
 module _ (old new : Entries) (before after nothing : Progress) (none : HasForgotten nothing) (is : after ≡ nothing) where
   -- rows that are shown the same after no name has changed
-  pub shown-forgotten : ShowsSame (shown (changed_in before) old) (shown no_name new) → ShowsSame (shown (changed_in before) old) (shown (changed_in after) new)
+  pub shown-forgotten : ShowsSame (shown (changed_in before) old) (shown no_name new) → ShowsSame (shown (changed_in before) old)
+      (shown (changed_in after) new)
   shown-forgotten same path =
       (λ i. shown (changed_in (is i)) new path) ∙ shown-test (changed_in nothing) no_name new (forgotten nothing none) path ∙ same path
 
   -- a turn that failed, after which nothing is under way
   pub drops-forgotten : ShowsSame (shown (changed_in before) old) (shown no_name new)
-      → DropsTurn (refresh_at (shown (changed_in before) old) (begun_in before)) (refresh_at (shown (changed_in after) new) (begun_in after))
+      → DropsTurn (refresh_at (shown (changed_in before) old) (begun_in before))
+          (refresh_at (shown (changed_in after) new) (begun_in after))
   drops-forgotten same = record { rows = shown-forgotten same; begun = ap begun_in is ∙ begun-forgotten nothing none }
 
   pub IsProgress-taken : (world : World) (rows : ShownRows) → IsProgress world rows after

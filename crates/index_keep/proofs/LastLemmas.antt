@@ -1,5 +1,6 @@
 -- The index of before names changed, and the rows that are left of it.
-use Rattle.std.proofs.Common.{◌≡◌, ◌∙◌, ap, subst, sym, refl, ℕ, Bool, true, false, ◌||◌, if◌then◌else◌, List, map, Option, Some, None, is_some, option_map, option_and_then, String, Global, string_bytes}
+use Rattle.std.proofs.Common.{◌≡◌, ◌∙◌, ap, subst, sym, refl, ℕ, Bool, true, false, ◌||◌, if◌then◌else◌, List, map, Option, Some, None}
+use Rattle.std.proofs.Common.{is_some, option_map, option_and_then, String, Global, string_bytes}
 use Rattle.std.proofs.lemmas.Bool.{false≢true}
 use Rattle.std.proofs.lemmas.Slice.Eq.{bytes_eq-Decides}
 use Rattle.std.specs.Option.{option_or}
@@ -17,12 +18,14 @@ use Rattle.port_index.specs.declared.memory_rows.MemoryRows.{MemoryRows}
 use Rattle.port_index.specs.declared.known_index.KnownIndex.{KnownIndex}
 use Rattle.index_row.specs.Rows.{RowValue, row_of}
 use Rattle.index_store.specs.Entries.{StoredValue, Entries}
-use Rattle.index_keep.specs.Last.{IsLast, NamesAsBefore, Recalls, RecallsLists, Serves, led_to, listed_in, needed_before, needed_of, paths_in}
+use Rattle.index_keep.specs.Last.{IsLast, NamesAsBefore, Recalls, RecallsLists, Serves, led_to, listed_in, needed_before, needed_of}
+use Rattle.index_keep.specs.Last.{paths_in}
 use Rattle.index_keep.specs.declared.last_index.LastIndex.{LastIndex}
 use Rattle.index_keep.specs.declared.last_index.LastLists.{LastLists}
 use Rattle.index_keep.specs.Walk.{HasRowMore}
 use Rattle.index_keep.proofs.ShownLemmas.{entries-fresh}
-use Rattle.index_keep.specs.Shown.{ShownRow, ShownRows, shown, show_row, show_stored, asked_one, fresh, fresh_said, said_if_fresh, said_in_row}
+use Rattle.index_keep.specs.Shown.{ShownRow, ShownRows, shown, show_row, show_stored, asked_one, fresh, fresh_said, said_if_fresh}
+use Rattle.index_keep.specs.Shown.{said_in_row}
 use Rattle.index_keep.proofs.WalkLemmas.{alike-same, lacking-there}
 
 module _ (test : List ℕ → Bool) (rows : ShownRows) (index : KnownIndex) (last : IsLast test rows index) where
@@ -30,7 +33,8 @@ module _ (test : List ℕ → Bool) (rows : ShownRows) (index : KnownIndex) (las
   abbrev pub asked : List ℕ → Bool
   asked path = has_asked_for test (names_said_in index.rows path)
 
-  names_at : (path : List ℕ) (row : Option ShownRow) → rows path ≡ row → names_said_in index.rows path ≡ option_map (λ (said : Said). said.names) (option_map said_in_row row)
+  names_at : (path : List ℕ) (row : Option ShownRow) → rows path ≡ row → names_said_in index.rows path ≡ option_map
+      (λ (said : Said). said.names) (option_map said_in_row row)
   names_at path row is = ap (option_map (λ (said : Said). said.names)) (last.says path ∙ ap (option_map said_in_row) is)
 
   pub asked-there : (path : List ℕ) (row : ShownRow) → rows path ≡ Some row → asked path ≡ asked_one test row.row
@@ -39,9 +43,11 @@ module _ (test : List ℕ → Bool) (rows : ShownRows) (index : KnownIndex) (las
   asked_not_there : (path : List ℕ) → rows path ≡ None → asked path ≡ false
   asked_not_there path is = ap (has_asked_for test) (names_at path None is)
 
-  left_at : (path : List ℕ) (row : Option ShownRow) → rows path ≡ row → (if asked path then None else said_in index.rows path) ≡ option_and_then said_if_fresh row
+  left_at : (path : List ℕ) (row : Option ShownRow) → rows path ≡ row → (if asked path then None else said_in index.rows path) ≡
+      option_and_then said_if_fresh row
   left_at path None is =
-      ap (λ (b : Bool). if b then None else said_in index.rows path) (asked_not_there path is) ∙ last.says path ∙ ap (option_map said_in_row) is
+      ap (λ (b : Bool). if b then None else said_in index.rows path) (asked_not_there path is) ∙ last.says path
+          ∙ ap (option_map said_in_row) is
   left_at path (Some row) is =
       ap (λ (b : Bool). if b then None else said_in index.rows path) (asked-there path row is ∙ sym (last.stale path row is))
       ∙ ap (λ (said : Option Said). if row.stale then None else said) (last.says path ∙ ap (option_map said_in_row) is)
@@ -61,21 +67,24 @@ module _ (test : List ℕ → Bool) (rows : ShownRows) (index : KnownIndex) (las
     or_none None = refl
     or_none (Some row) = refl
 
-    either_part : (said : Option Said) (b : Bool) → option_or (outcome_of (if b then None else said)) (outcome_of (if b then said else None)) ≡ outcome_of said
+    either_part : (said : Option Said) (b : Bool) → option_or (outcome_of (if b then None else said))
+        (outcome_of (if b then said else None)) ≡ outcome_of said
     either_part said true = refl
     either_part said false = or_none (outcome_of said)
 
     led_as_before : (path : List ℕ) → led_to left taken path ≡ known_in (entries_in index.rows) path
     led_as_before path =
         ap (λ said. known_row (option_or (outcome_of said) (entries_in taken path))) (leaves path)
-        ∙ ap (λ said. known_row (option_or (outcome_of (if asked path then None else said_in index.rows path)) (outcome_of said))) (takes path)
+        ∙ ap (λ said. known_row (option_or (outcome_of (if asked path then None else said_in index.rows path)) (outcome_of said)))
+            (takes path)
         ∙ ap known_row (either_part (said_in index.rows path) (asked path))
 
     said_there : (path : List ℕ) (row : Option ShownRow) → rows path ≡ row → is_some (outcome_of (said_in index.rows path)) ≡ is_some row
     said_there path None is = ap (λ said. is_some (outcome_of said)) (last.says path ∙ ap (option_map said_in_row) is)
     said_there path (Some row) is = ap (λ said. is_some (outcome_of said)) (last.says path ∙ ap (option_map said_in_row) is)
 
-    among_taken : (path : List ℕ) (b : Bool) → is_some (outcome_of (if b then said_in index.rows path else None)) ≡ true → is_some (outcome_of (said_in index.rows path)) ≡ true
+    among_taken : (path : List ℕ) (b : Bool) → is_some (outcome_of (if b then said_in index.rows path else None)) ≡ true
+        → is_some (outcome_of (said_in index.rows path)) ≡ true
     among_taken path true some = some
     among_taken path false some = absurd (false≢true some)
 
@@ -91,14 +100,16 @@ module _ (test : List ℕ → Bool) (rows : ShownRows) (index : KnownIndex) (las
         ap (λ said. is_some (outcome_of said)) (leaves path ∙ ap (λ (b : Bool). if b then None else said_in index.rows path) apart)
         ∙ said_there path (rows path) refl ∙ some
 
-    module _ (asking : Vec (String Global) Global) (asks : (path : List ℕ) → is_one_of path (map string_bytes asking.items) ≡ asked path) where
+    module _ (asking : Vec (String Global) Global) (asks : (path : List ℕ) → is_one_of path (map string_bytes asking.items) ≡ asked path)
+        where
       abbrev begun : LastLists
       begun = record { listed = index.paths.listed; last = record { outdated = taken; paths = asking } }
 
       needed_as : needed_of left (listed_in begun) begun.last ≡ needed_before index
       needed_as = ap (λ outcomes. needed_among outcomes (listed_in begun)) led
 
-      pub recalls-begun : (world : World) → Serves world rows index → RecallsLists world rows left (map string_bytes index.paths.directories.items) begun
+      pub recalls-begun : (world : World) → Serves world rows index
+          → RecallsLists world rows left (map string_bytes index.paths.directories.items) begun
       recalls-begun world serves = record {
         listed = last.listed ∙ ap (λ outcomes. listed_from outcomes (map string_bytes index.paths.directories.items)) (sym led);
         last = record {
@@ -113,14 +124,16 @@ module _ (test : List ℕ → Bool) (rows : ShownRows) (index : KnownIndex) (las
 
 -- ---- lists that are kept
 
-module _ (law : AlikeRowsListTheSame) (world : World) (path : List ℕ) (said : Said) (old new : ShownRows) (more : HasRowMore world path said old new)
+module _ (law : AlikeRowsListTheSame) (world : World) (path : List ℕ) (said : Said) (old new : ShownRows)
+    (more : HasRowMore world path said old new)
     (known after : MemoryRows) (knows : (other : List ℕ) → said_in known other ≡ fresh_said old other)
     (puts : (other : List ℕ) → said_in after other ≡ (if bytes_eq path other then Some said else said_in known other))
     (last : LastIndex) (names : NamesAsBefore path said.outcome last) where
   lacked : entries_in known path ≡ None
   lacked = entries-fresh old known knows path ∙ (lacking-there world (fresh old) path more.lacking.lacking).1
 
-  put_at : (other : List ℕ) (same : Bool) → bytes_eq path other ≡ same → NameAlike other (led_to known last.outdated other) (led_to after last.outdated other)
+  put_at : (other : List ℕ) (same : Bool) → bytes_eq path other ≡ same → NameAlike other (led_to known last.outdated other)
+      (led_to after last.outdated other)
   put_at other true same =
       subst (λ at. NameAlike at (led_to known last.outdated at) (led_to after last.outdated at)) ((bytes_eq-Decides path other).0 same)
       (subst (λ found. NameAlike path found (led_to after last.outdated path))
@@ -140,9 +153,11 @@ module _ (law : AlikeRowsListTheSame) (world : World) (path : List ℕ) (said : 
     needed_still : needed_of after listed last ≡ needed_of known listed last
     needed_still = law.needed (led_to known last.outdated) (led_to after last.outdated) listed (alike listed)
 
-    alone_at : (other : List ℕ) (same : Bool) → bytes_eq path other ≡ same → (same || is_some (old other)) ≡ true → (is_one_of other (needed_of known listed last) ≡ true) × (has_makefile world other ≡ true)
+    alone_at : (other : List ℕ) (same : Bool) → bytes_eq path other ≡ same → (same || is_some (old other)) ≡ true
+        → (is_one_of other (needed_of known listed last) ≡ true) × (has_makefile world other ≡ true)
     alone_at other true same some =
-        subst (λ at. (is_one_of at (needed_of known listed last) ≡ true) × (has_makefile world at ≡ true)) ((bytes_eq-Decides path other).0 same)
+        subst (λ at. (is_one_of at (needed_of known listed last) ≡ true) × (has_makefile world at ≡ true))
+            ((bytes_eq-Decides path other).0 same)
         (recalls.alone path (recalls.outdated path (ap is_some names.was)))
     alone_at other false same some = recalls.alone other some
 
@@ -154,7 +169,8 @@ module _ (law : AlikeRowsListTheSame) (world : World) (path : List ℕ) (said : 
     not_there other true none = absurd (false≢true (sym none))
     not_there other false none = none
 
-    fresh_at : (other : List ℕ) (same : Bool) → bytes_eq path other ≡ same → (same || is_some (old other)) ≡ true → is_one_of other (paths_in last) ≡ false
+    fresh_at : (other : List ℕ) (same : Bool) → bytes_eq path other ≡ same → (same || is_some (old other)) ≡ true
+        → is_one_of other (paths_in last) ≡ false
         → is_some (option_map (λ (one : Said). one.outcome) (if same then Some said else said_in known other)) ≡ true
     fresh_at other true same some apart = refl
     fresh_at other false same some apart = recalls.fresh other some apart
@@ -165,7 +181,8 @@ module _ (law : AlikeRowsListTheSame) (world : World) (path : List ℕ) (said : 
       alone = λ other some.
           let one = alone_at other (bytes_eq path other) refl (sym (more.there other) ∙ some) in
           (ap (is_one_of other) needed_still ∙ one.0, one.1);
-      missing = λ other one none. recalls.missing other (ap (is_one_of other) (sym needed_still) ∙ one) (not_there other (bytes_eq path other) (sym (more.there other) ∙ none));
+      missing = λ other one none. recalls.missing other (ap (is_one_of other) (sym needed_still) ∙ one)
+          (not_there other (bytes_eq path other) (sym (more.there other) ∙ none));
       outdated = λ other some. more.there other ∙ still_there other (bytes_eq path other) (recalls.outdated other some);
       among = λ other one. more.there other ∙ still_there other (bytes_eq path other) (recalls.among other one);
       fresh = λ other some apart. ap (λ row. is_some (option_map (λ (one : Said). one.outcome) row)) (puts other)
@@ -173,12 +190,14 @@ module _ (law : AlikeRowsListTheSame) (world : World) (path : List ℕ) (said : 
     }
 
   -- then the same paths are listed below these directories
-  pub listed-more : (directories : List (List ℕ)) → listed_from (led_to after last.outdated) directories ≡ listed_from (led_to known last.outdated) directories
+  pub listed-more : (directories : List (List ℕ)) → listed_from (led_to after last.outdated) directories ≡ listed_from
+      (led_to known last.outdated) directories
   listed-more directories = law.listed (led_to known last.outdated) (led_to after last.outdated) directories (alike directories)
 
 -- ---- rows of which some are taken
 
-module _ (known left taken : List ℕ → Option Said) (before : List ℕ → Bool) (lefts : (path : List ℕ) → left path ≡ (if before path then None else known path))
+module _ (known left taken : List ℕ → Option Said) (before : List ℕ → Bool) (lefts : (path : List ℕ)
+    → left path ≡ (if before path then None else known path))
     (takes : (path : List ℕ) → taken path ≡ (if before path then known path else None)) (item : List ℕ) where
   or_false : (b : Bool) → b ≡ (b || false)
   or_false true = refl
@@ -219,7 +238,8 @@ module _ (known left taken : List ℕ → Option Said) (before : List ℕ → Bo
   taken-none is path false e = as_before path
 
 -- the stored rows that asked for such a name
-pub stored-asked : (test : List ℕ → Bool) (entries : Entries) (index : KnownIndex) (last : IsLast test (shown test entries) index) (path : List ℕ) (one : StoredValue) (row : RowValue)
+pub stored-asked : (test : List ℕ → Bool) (entries : Entries) (index : KnownIndex) (last : IsLast test (shown test entries) index)
+    (path : List ℕ) (one : StoredValue) (row : RowValue)
     → entries path ≡ Some one → row_of one.text ≡ Some row → asked_one test row ≡ asked test (shown test entries) index last path
 stored-asked test entries index last path one row there is =
     sym (asked-there test (shown test entries) index last path (show_row test one.stale row)

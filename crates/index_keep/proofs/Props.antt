@@ -27,7 +27,8 @@ AreKept-prop world rows = hlevel (props, IsRightRow-prop)
 AreCurrent-prop : (world : World) (rows : ShownRows) → IsProp (AreCurrent world rows)
 AreCurrent-prop world rows = hlevel props
 
-KnowsBeside-prop : (world : World) (rows : ShownRows) (beside : Option (Vec (String Global) Global)) → IsProp (KnowsBeside world rows beside)
+KnowsBeside-prop : (world : World) (rows : ShownRows) (beside : Option (Vec (String Global) Global))
+    → IsProp (KnowsBeside world rows beside)
 KnowsBeside-prop world rows None = hlevel props
 KnowsBeside-prop world rows (Some beside) = hlevel props
 

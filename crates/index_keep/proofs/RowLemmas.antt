@@ -20,7 +20,8 @@ module _ (path : List ℕ) (row : RowValue) (text : List ℕ) (reads : row_of te
       ∙ ap Some (ap (λ (stale : Bool). let one : ShownRow = record { row = row; stale = stale } in one) (asked-none row.names))
 
   put_by : (old : Entries) (other : List ℕ) (same : Bool)
-      → option_and_then (show_stored no_name) (if same then Some (record { stale = false; text = text }) else old other) ≡ (if same then Some fresh_one else shown no_name old other)
+      → option_and_then (show_stored no_name) (if same then Some (record { stale = false; text = text }) else old other) ≡
+          (if same then Some fresh_one else shown no_name old other)
   put_by old other true = shown_fresh
   put_by old other false = refl
 

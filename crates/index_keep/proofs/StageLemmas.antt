@@ -24,15 +24,19 @@ module _ (world : World) (entries : List ℕ → Option PathOutcome) (all paths 
     pub lacking-among : (path : List ℕ) → is_one_of path paths ≡ true → is_one_of path all ≡ true
     lacking-among path one = (and_parts (is_one_of path all) (is_none (entries path)) (sym (lacks path) ∙ one)).0
 
-    known_at : (path : List ℕ) (row : Option PathOutcome) → entries path ≡ row → is_none row ≡ false → is_some (decided world entries path) ≡ true
+    known_at : (path : List ℕ) (row : Option PathOutcome) → entries path ≡ row → is_none row ≡ false
+        → is_some (decided world entries path) ≡ true
     known_at path None e out = absurd (false≢true (sym out))
     known_at path (Some row) e out = decided-known world entries path (ap is_some e)
 
-    pub lacking-others : (path : List ℕ) → is_one_of path all ≡ true → is_one_of path paths ≡ false → is_some (decided world entries path) ≡ true
-    lacking-others path one apart = known_at path (entries path) refl (ap (λ b. b && is_none (entries path)) (sym one) ∙ sym (lacks path) ∙ apart)
+    pub lacking-others : (path : List ℕ) → is_one_of path all ≡ true → is_one_of path paths ≡ false
+        → is_some (decided world entries path) ≡ true
+    lacking-others path one apart = known_at path (entries path) refl (ap (λ b. b && is_none (entries path)) (sym one)
+        ∙ sym (lacks path) ∙ apart)
 
   -- a stage of those that are outdated
-  module _ (rows : ShownRows) (asked : List (List ℕ)) (found : (path : List ℕ) → is_one_of path paths ≡ (is_one_of path asked && is_one_of path all))
+  module _ (rows : ShownRows) (asked : List (List ℕ)) (found : (path : List ℕ)
+      → is_one_of path paths ≡ (is_one_of path asked && is_one_of path all))
       (missing : (path : List ℕ) → is_one_of path all ≡ true → is_some (rows path) ≡ false → has_makefile world path ≡ false)
       (fresh : (path : List ℕ) → is_some (rows path) ≡ true → is_one_of path asked ≡ false → is_some (entries path) ≡ true) where
     pub outdated-among : (path : List ℕ) → is_one_of path paths ≡ true → is_one_of path all ≡ true
@@ -42,10 +46,12 @@ module _ (world : World) (entries : List ℕ → Option PathOutcome) (all paths 
     not_asked true is one none = absurd (false≢true (sym none ∙ one))
     not_asked false is one none = refl
 
-    other_at : (path : List ℕ) → is_one_of path all ≡ true → is_one_of path asked ≡ false → (some : Bool) → is_some (rows path) ≡ some → is_some (decided world entries path) ≡ true
+    other_at : (path : List ℕ) → is_one_of path all ≡ true → is_one_of path asked ≡ false → (some : Bool) → is_some (rows path) ≡ some
+        → is_some (decided world entries path) ≡ true
     other_at path one apart true e = decided-known world entries path (fresh path e apart)
     other_at path one apart false e = decided-absent world entries path (missing path one e)
 
-    pub outdated-others : (path : List ℕ) → is_one_of path all ≡ true → is_one_of path paths ≡ false → is_some (decided world entries path) ≡ true
+    pub outdated-others : (path : List ℕ) → is_one_of path all ≡ true → is_one_of path paths ≡ false
+        → is_some (decided world entries path) ≡ true
     outdated-others path one apart =
         other_at path one (not_asked (is_one_of path asked) (is_one_of path all) one (sym (found path) ∙ apart)) (is_some (rows path)) refl

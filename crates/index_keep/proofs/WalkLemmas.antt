@@ -1,5 +1,6 @@
 -- A refresh that goes through paths.
-use Rattle.std.proofs.Common.{Global, String, string_bytes, map, ◌≡◌, ◌∙◌, sym, ap, subst, refl, ℕ, Bool, true, false, ◌||◌, ◌&&◌, if◌then◌else◌, List, ◌++◌, take, Option, Some, None, is_none, is_some, option_and_then, option_map}
+use Rattle.std.proofs.Common.{Global, String, string_bytes, map, ◌≡◌, ◌∙◌, sym, ap, subst, refl, ℕ, Bool, true, false, ◌||◌, ◌&&◌}
+use Rattle.std.proofs.Common.{if◌then◌else◌, List, ◌++◌, take, Option, Some, None, is_none, is_some, option_and_then, option_map}
 use Rattle.std.proofs.lemmas.Bool.{false≢true, and_from, and_parts, or_right}
 use Rattle.std.proofs.lemmas.Slice.Eq.{bytes_eq-Decides}
 use Rattle.std.specs.List.{filter_map, flat_map}
@@ -16,7 +17,8 @@ use Rattle.port_index.specs.Index.{listed_paths, needed_among, needed_paths}
 use Rattle.port_index.specs.Makefiles.{AreOfDirectories}
 use Rattle.port_index.specs.TreePaths.{directories, listed_from, named_at, named_in}
 use Rattle.port_index.specs.Pairs.{pair_at}
-use Rattle.port_index.specs.PathOutcomes.{PathOutcome, Absent, Faulty, Port, BadPort, Lists, BadList, FlavoredList, Other, cost_at, outcome_at}
+use Rattle.port_index.specs.PathOutcomes.{PathOutcome, Absent, Faulty, Port, BadPort, Lists, BadList, FlavoredList, Other, cost_at}
+use Rattle.port_index.specs.PathOutcomes.{outcome_at}
 use Rattle.turn_amounts.specs.Spent.{no_spending, spent_in_all}
 use Rattle.port_index.specs.Spent.{SpendsOnPath}
 use Rattle.turn_amounts.specs.declared.spent.Spent.{Spent}
@@ -38,7 +40,8 @@ use Rattle.index_keep.specs.Keeper.{IsReadyFor}
 use Rattle.eval_ask.specs.Ask.{IsShort, MakesInTime}
 use Rattle.index_keep.specs.Paths.{IsMade}
 use Rattle.index_keep.specs.Turns.{Evaluates, refresh_at}
-use Rattle.index_keep.specs.Walk.{AreNeededBeside, HasListed, HasPassed, HasRowMore, IsDirectoryStage, IsLacking, IsLastStage, IsListedStage, IsStage, LacksNone, LacksRow, ListsPaths, Says, listed_of, paths_of}
+use Rattle.index_keep.specs.Walk.{AreNeededBeside, HasListed, HasPassed, HasRowMore, IsDirectoryStage, IsLacking, IsLastStage}
+use Rattle.index_keep.specs.Walk.{IsListedStage, IsStage, LacksNone, LacksRow, ListsPaths, Says, listed_of, paths_of}
 use Rattle.index_keep.specs.declared.path_ask.MadeRow.{MadeRow}
 use Rattle.index_keep.specs.declared.walk.Walk.{Walk}
 use Rattle.index_row.specs.Seen.{kept_row_seen}
@@ -49,19 +52,22 @@ use Rattle.index_keep.proofs.SortLemmas.{one_of-append}
 
 -- ---- which paths are among which
 
-pub listed-from : (outcomes : List ℕ → PathOutcome) (directories : List (List ℕ)) (path : List ℕ) → is_one_of path directories ≡ true → is_one_of path (listed_from outcomes directories) ≡ true
+pub listed-from : (outcomes : List ℕ → PathOutcome) (directories : List (List ℕ)) (path : List ℕ) → is_one_of path directories ≡ true
+    → is_one_of path (listed_from outcomes directories) ≡ true
 listed-from outcomes directories path is =
     let named = flat_map (named_at outcomes) directories in
     among-in_order (λ one. bytes_eq one path) (named ++ directories)
     ∙ one_of-append path named directories ∙ or_right (is_one_of path named) (is_one_of path directories) is
 
-pub needed-among : (outcomes : List ℕ → PathOutcome) (listed : List (List ℕ)) (path : List ℕ) → is_one_of path listed ≡ true → is_one_of path (needed_among outcomes listed) ≡ true
+pub needed-among : (outcomes : List ℕ → PathOutcome) (listed : List (List ℕ)) (path : List ℕ) → is_one_of path listed ≡ true
+    → is_one_of path (needed_among outcomes listed) ≡ true
 needed-among outcomes listed path is =
     let targets = filter_map target_of (items_among outcomes listed) in
     among-in_order (λ one. bytes_eq one path) (listed ++ targets)
     ∙ one_of-append path listed targets ∙ ap (λ b. b || is_one_of path targets) is
 
-pub listed-has : (world : World) (path : List ℕ) → is_one_of path (directories (files_in world)) ≡ true → is_one_of path (listed_paths world) ≡ true
+pub listed-has : (world : World) (path : List ℕ) → is_one_of path (directories (files_in world)) ≡ true
+    → is_one_of path (listed_paths world) ≡ true
 listed-has world = listed-from (outcome_at world) (directories (files_in world))
 
 pub needed-has : (world : World) (path : List ℕ) → is_one_of path (listed_paths world) ≡ true → is_one_of path (needed_paths world) ≡ true
@@ -81,7 +87,8 @@ absent-of FlavoredList is = absurd cc
 absent-of Other is = absurd cc
 
 module _ (world : World) (entries : List ℕ → Option PathOutcome) (path : List ℕ) where
-  lacking_by : (there : Bool) → has_makefile world path ≡ there → (if there then entries path else Some Absent) ≡ None → (has_makefile world path ≡ true) × (entries path ≡ None)
+  lacking_by : (there : Bool) → has_makefile world path ≡ there → (if there then entries path else Some Absent) ≡ None
+      → (has_makefile world path ≡ true) × (entries path ≡ None)
   lacking_by true e is = (e, is)
   lacking_by false e is = absurd cc
 
@@ -108,14 +115,16 @@ module _ (world : World) (entries : List ℕ → Option PathOutcome) (path : Lis
   decided-there there some = ap (λ (b : Bool). is_some (if b then entries path else Some Absent)) (sym there) ∙ some
 
 -- the same rows decide the same
-pub decided-same : (world : World) (one other : List ℕ → Option PathOutcome) → ((path : List ℕ) → one path ≡ other path) → (paths : List (List ℕ)) → AreDecided world one paths → AreDecided world other paths
+pub decided-same : (world : World) (one other : List ℕ → Option PathOutcome) → ((path : List ℕ) → one path ≡ other path)
+    → (paths : List (List ℕ)) → AreDecided world one paths → AreDecided world other paths
 decided-same world one other same paths known path is =
     ap (λ row. is_some (if has_makefile world path then row else Some Absent)) (sym (same path)) ∙ known path is
 
 -- the same of one path
 pub decided-one : (world : World) (one other : List ℕ → Option PathOutcome) → ((path : List ℕ) → one path ≡ other path) → (path : List ℕ)
     → is_some (decided world one path) ≡ true → is_some (decided world other path) ≡ true
-decided-one world one other same path known = ap (λ row. is_some (if has_makefile world path then row else Some Absent)) (sym (same path)) ∙ known
+decided-one world one other same path known = ap (λ row. is_some (if has_makefile world path then row else Some Absent))
+    (sym (same path)) ∙ known
 
 -- ---- rows that name the same paths
 
@@ -127,24 +136,29 @@ pub alike-fresh : (world : World) (known outdated : MemoryRows) (paths : List (L
     → ((path : List ℕ) → is_some (entries_in outdated path) ≡ true → has_makefile world path ≡ true)
     → AreAlikeAt (led_to known outdated) (known_in (entries_in known)) paths
 alike-fresh world known outdated paths have there path is =
-    alike-same path (led_to known outdated path) (known_in (entries_in known) path) (by (entries_in known path) refl (entries_in outdated path) refl)
+    alike-same path (led_to known outdated path) (known_in (entries_in known) path)
+        (by (entries_in known path) refl (entries_in outdated path) refl)
   where
-    by : (row : Option PathOutcome) → entries_in known path ≡ row → (before : Option PathOutcome) → entries_in outdated path ≡ before → known_row row ≡ known_row (option_or row before)
+    by : (row : Option PathOutcome) → entries_in known path ≡ row → (before : Option PathOutcome) → entries_in outdated path ≡ before
+        → known_row row ≡ known_row (option_or row before)
     by (Some row) e before f = refl
     by None e None f = refl
-    by None e (Some before) f = absurd (false≢true (sym (ap is_some e) ∙ decided-there world (entries_in known) path (there path (ap is_some f)) (have path is)))
+    by None e (Some before) f =
+        absurd (false≢true (sym (ap is_some e) ∙ decided-there world (entries_in known) path (there path (ap is_some f)) (have path is)))
 
 -- ---- rows that are right
 
 module _ (world : World) (rows : ShownRows) (kept : AreKept world rows) where
-  shown_by : (path : List ℕ) (row : ShownRow) (stale : Bool) → row.stale ≡ stale → rows path ≡ Some row → is_some (if stale then None else Some row.row.outcome) ≡ true
+  shown_by : (path : List ℕ) (row : ShownRow) (stale : Bool) → row.stale ≡ stale → rows path ≡ Some row
+      → is_some (if stale then None else Some row.row.outcome) ≡ true
       → rows path ≡ Some (fresh_row world path)
   shown_by path row true e is some = absurd (false≢true some)
   shown_by path row false e is some =
       is ∙ ap Some (ap (λ (stale : Bool). let one : ShownRow = record { row = row.row; stale = stale } in one) e
       ∙ ap (λ row. let one : ShownRow = record { row = row; stale = false } in one) (kept.right path row is e).same)
 
-  shown_at : (path : List ℕ) (row : Option ShownRow) → rows path ≡ row → is_some (option_and_then fresh_outcome row) ≡ true → rows path ≡ Some (fresh_row world path)
+  shown_at : (path : List ℕ) (row : Option ShownRow) → rows path ≡ row → is_some (option_and_then fresh_outcome row) ≡ true
+      → rows path ≡ Some (fresh_row world path)
   shown_at path None is some = absurd (false≢true some)
   shown_at path (Some row) is some = shown_by path row row.stale refl is some
 
@@ -159,11 +173,13 @@ module _ (world : World) (rows : ShownRows) (kept : AreKept world rows) where
   pub there-fresh : (path : List ℕ) → is_some (fresh rows path) ≡ true → has_makefile world path ≡ true
   there-fresh path some = kept.there path (fresh_row world path) (row-fresh path some) refl
 
-  say_absent : (path : List ℕ) (row : Option PathOutcome) → fresh rows path ≡ row → has_makefile world path ≡ false → known_row row ≡ outcome_at world path
+  say_absent : (path : List ℕ) (row : Option PathOutcome) → fresh rows path ≡ row → has_makefile world path ≡ false
+      → known_row row ≡ outcome_at world path
   say_absent path None is there = sym (absent-of (outcome_at world path) there)
   say_absent path (Some outcome) is there = absurd (false≢true (sym there ∙ there-fresh path (ap is_some is)))
 
-  say_by : (path : List ℕ) (there : Bool) → has_makefile world path ≡ there → is_some (if there then fresh rows path else Some Absent) ≡ true → known_in (fresh rows) path ≡ outcome_at world path
+  say_by : (path : List ℕ) (there : Bool) → has_makefile world path ≡ there → is_some (if there then fresh rows path else Some Absent) ≡
+      true → known_in (fresh rows) path ≡ outcome_at world path
   say_by path true e some = ap known_row (outcome-fresh path some)
   say_by path false e some = say_absent path (fresh rows path) refl e
 
@@ -174,7 +190,8 @@ module _ (world : World) (rows : ShownRows) (kept : AreKept world rows) where
   -- the fresh rows of needed paths are left
   module _ (new : ShownRows) (known : HaveFresh world rows)
       (left : (path : List ℕ) → new path ≡ (if is_fresh_of (needed_paths world) rows path then rows path else None)) where
-    current_at : (path : List ℕ) (need some there : Bool) → is_one_of path (needed_paths world) ≡ need → is_some (fresh rows path) ≡ some → has_makefile world path ≡ there
+    current_at : (path : List ℕ) (need some there : Bool) → is_one_of path (needed_paths world) ≡ need → is_some (fresh rows path) ≡ some
+        → has_makefile world path ≡ there
         → (if need && some then rows path else None) ≡ (if need && there then Some (fresh_row world path) else None)
     current_at path true true true e f g = row-fresh path f
     current_at path true true false e f g = absurd (false≢true (sym g ∙ there-fresh path f))
@@ -184,7 +201,8 @@ module _ (world : World) (rows : ShownRows) (kept : AreKept world rows) where
 
     pub AreCurrent-left : AreCurrent world new
     AreCurrent-left = record {
-      each = λ path. left path ∙ current_at path (is_one_of path (needed_paths world)) (is_some (fresh rows path)) (has_makefile world path) refl refl refl;
+      each = λ path. left path ∙ current_at path (is_one_of path (needed_paths world)) (is_some (fresh rows path))
+          (has_makefile world path) refl refl refl;
     }
 
     old_left : (path : List ℕ) (row : ShownRow) (is : Bool) → (if is then rows path else None) ≡ Some row → rows path ≡ Some row
@@ -201,21 +219,29 @@ module _ (world : World) (rows : ShownRows) (kept : AreKept world rows) where
     }
 
   -- a path has its row now
-  module _ (path : List ℕ) (right : IsRightRow world path (right_row world path)) (makefile : has_makefile world path ≡ true) (new : ShownRows)
+  module _ (path : List ℕ) (right : IsRightRow world path (right_row world path))
+      (makefile : has_makefile world path ≡ true) (new : ShownRows)
       (put : (other : List ℕ) → new other ≡ (if bytes_eq path other then Some (fresh_row world path) else rows other)) where
-    put_right : (other : List ℕ) (same : Bool) → bytes_eq path other ≡ same → (row : ShownRow) → new other ≡ Some row → row.stale ≡ false → IsRightRow world other row.row
+    put_right : (other : List ℕ) (same : Bool) → bytes_eq path other ≡ same → (row : ShownRow) → new other ≡ Some row → row.stale ≡ false
+        → IsRightRow world other row.row
     put_right other true same row e stale =
-        let there : new other ≡ Some (fresh_row world path) = put other ∙ ap (λ (b : Bool). if b then Some (fresh_row world path) else rows other) same in
+        let there : new other ≡ Some (fresh_row world path) = put other
+            ∙ ap (λ (b : Bool). if b then Some (fresh_row world path) else rows other) same in
         let the_row : fresh_row world path ≡ row = cc in
-        subst (λ (one : ShownRow). IsRightRow world other one.row) the_row (subst (λ at. IsRightRow world at (right_row world path)) ((bytes_eq-Decides path other).0 same) right)
-    put_right other false same row e stale = kept.right other row (sym (put other ∙ ap (λ (b : Bool). if b then Some (fresh_row world path) else rows other) same) ∙ e) stale
+        subst (λ (one : ShownRow). IsRightRow world other one.row) the_row (subst (λ at. IsRightRow world at (right_row world path))
+            ((bytes_eq-Decides path other).0 same) right)
+    put_right other false same row e stale = kept.right other row
+        (sym (put other ∙ ap (λ (b : Bool). if b then Some (fresh_row world path) else rows other) same) ∙ e) stale
 
-    put_there : (other : List ℕ) (same : Bool) → bytes_eq path other ≡ same → (row : ShownRow) → new other ≡ Some row → row.stale ≡ false → is_there row.row.outcome ≡ true
+    put_there : (other : List ℕ) (same : Bool) → bytes_eq path other ≡ same → (row : ShownRow) → new other ≡ Some row → row.stale ≡ false
+        → is_there row.row.outcome ≡ true
     put_there other true same row e stale =
-        let there : new other ≡ Some (fresh_row world path) = put other ∙ ap (λ (b : Bool). if b then Some (fresh_row world path) else rows other) same in
+        let there : new other ≡ Some (fresh_row world path) = put other
+            ∙ ap (λ (b : Bool). if b then Some (fresh_row world path) else rows other) same in
         let the_row : fresh_row world path ≡ row = cc in
         subst (λ (one : ShownRow). is_there one.row.outcome ≡ true) the_row makefile
-    put_there other false same row e stale = kept.there other row (sym (put other ∙ ap (λ (b : Bool). if b then Some (fresh_row world path) else rows other) same) ∙ e) stale
+    put_there other false same row e stale = kept.there other row
+        (sym (put other ∙ ap (λ (b : Bool). if b then Some (fresh_row world path) else rows other) same) ∙ e) stale
 
     pub AreKept-put : AreKept world new
     AreKept-put = record {
@@ -223,11 +249,13 @@ module _ (world : World) (rows : ShownRows) (kept : AreKept world rows) where
       there = λ other row e stale. put_there other (bytes_eq path other) refl row e stale;
     }
 
-    said_cases : (other : List ℕ) (same : Bool) → option_and_then said_if_fresh (if same then Some (fresh_row world path) else rows other) ≡ (if same then Some (said_by (right_row world path)) else fresh_said rows other)
+    said_cases : (other : List ℕ) (same : Bool) → option_and_then said_if_fresh (if same then Some (fresh_row world path) else rows other) ≡
+        (if same then Some (said_by (right_row world path)) else fresh_said rows other)
     said_cases other true = refl
     said_cases other false = refl
 
-    pub said-put : (other : List ℕ) → fresh_said new other ≡ (if bytes_eq path other then Some (said_by (right_row world path)) else fresh_said rows other)
+    pub said-put : (other : List ℕ) → fresh_said new other ≡ (if bytes_eq path other then Some (said_by (right_row world path))
+        else fresh_said rows other)
     said-put other = ap (option_and_then said_if_fresh) (put other) ∙ said_cases other (bytes_eq path other)
 
   -- ---- what the rows of a stage say that is at its end
@@ -237,13 +265,15 @@ module _ (world : World) (rows : ShownRows) (kept : AreKept world rows) where
     same_known i path = entries-fresh rows known says path i
 
     -- the rows of directories say which paths are listed
-    pub listed-said : AreDecided world (fresh rows) (directories (files_in world)) → listed_from (known_in (entries_in known)) (directories (files_in world)) ≡ listed_paths world
+    pub listed-said : AreDecided world (fresh rows) (directories (files_in world)) → listed_from (known_in (entries_in known))
+        (directories (files_in world)) ≡ listed_paths world
     listed-said are =
         ap (λ entries. listed_from (known_in entries) (directories (files_in world))) same_known
         ∙ enough.listed world (fresh rows) (say-all (directories (files_in world)) are)
 
     -- the rows of listed paths say which are needed
-    pub needed-said : AreDecided world (fresh rows) (listed_paths world) → needed_among (known_in (entries_in known)) (listed_paths world) ≡ needed_paths world
+    pub needed-said : AreDecided world (fresh rows) (listed_paths world) → needed_among (known_in (entries_in known))
+        (listed_paths world) ≡ needed_paths world
     needed-said are =
         ap (λ entries. needed_among (known_in entries) (listed_paths world)) same_known
         ∙ enough.needed world (fresh rows) (say-all (listed_paths world) are)
@@ -259,19 +289,22 @@ pub said-same : (old new : ShownRows) → ShowsSame old new → (path : List ℕ
 said-same old new same path = sym (ap (option_and_then said_if_fresh) (same path))
 
 module _ (world : World) (rows : ShownRows) (current : AreCurrent world rows) where
-  said_if : (path : List ℕ) (needed : Bool) → option_and_then said_if_fresh (if needed then Some (fresh_row world path) else None) ≡ option_map said_in_row (if needed then Some (fresh_row world path) else None)
+  said_if : (path : List ℕ) (needed : Bool) → option_and_then said_if_fresh (if needed then Some (fresh_row world path) else None) ≡
+      option_map said_in_row (if needed then Some (fresh_row world path) else None)
   said_if path true = refl
   said_if path false = refl
 
   -- none of them is stale
   pub says-current : (known : MemoryRows) → ((path : List ℕ) → said_in known path ≡ fresh_said rows path) → SaysAll rows known
   says-current known says path =
-      says path ∙ ap (option_and_then said_if_fresh) (current.each path) ∙ said_if path (is_evaluated world path) ∙ ap (option_map said_in_row) (sym (current.each path))
+      says path ∙ ap (option_and_then said_if_fresh) (current.each path) ∙ said_if path (is_evaluated world path)
+          ∙ ap (option_map said_in_row) (sym (current.each path))
 
   abbrev outcome_of : Option ShownRow → PathOutcome
   outcome_of row = known_row (option_map (λ (said : Said). said.outcome) (option_map said_in_row row))
 
-  have_by : (path : List ℕ) (there : Bool) → has_makefile world path ≡ there → outcome_of (if there then Some (fresh_row world path) else None) ≡ outcome_at world path
+  have_by : (path : List ℕ) (there : Bool) → has_makefile world path ≡ there
+      → outcome_of (if there then Some (fresh_row world path) else None) ≡ outcome_at world path
   have_by path true e = refl
   have_by path false e = sym (absent-of (outcome_at world path) e)
 
@@ -284,18 +317,22 @@ module _ (world : World) (rows : ShownRows) (current : AreCurrent world rows) wh
 
 -- ---- rows of which the fresh ones are left that are needed
 
-module _ (old new : ShownRows) (known left : MemoryRows) (needed : List (List ℕ)) (others : Vec (String Global) Global) (leaves : LeavesFresh needed old new others)
+module _ (old new : ShownRows) (known left : MemoryRows) (needed : List (List ℕ)) (others : Vec (String Global) Global)
+    (leaves : LeavesFresh needed old new others)
     (says : (path : List ℕ) → said_in known path ≡ fresh_said old path)
-    (keeps : (path : List ℕ) → said_in left path ≡ (if is_one_of path (map string_bytes others.items) then None else said_in known path)) where
+    (keeps : (path : List ℕ) → said_in left path ≡ (if is_one_of path (map string_bytes others.items) then None else said_in known path))
+        where
   nothing_there : (row : Option ShownRow) → is_some row ≡ false → option_and_then said_if_fresh row ≡ None
   nothing_there None is = refl
   nothing_there (Some row) is = absurd (false≢true (sym is))
 
-  not_there : (path : List ℕ) → is_fresh_of needed old path ≡ false → is_one_of path (map string_bytes others.items) ≡ false → (there : Bool) → is_some (old path) ≡ there → fresh_said old path ≡ None
+  not_there : (path : List ℕ) → is_fresh_of needed old path ≡ false → is_one_of path (map string_bytes others.items) ≡ false
+      → (there : Bool) → is_some (old path) ≡ there → fresh_said old path ≡ None
   not_there path apart other true is = absurd (false≢true (sym other ∙ leaves.all path apart is))
   not_there path apart other false is = nothing_there (old path) is
 
-  left_by : (path : List ℕ) (need other : Bool) → is_fresh_of needed old path ≡ need → is_one_of path (map string_bytes others.items) ≡ other
+  left_by : (path : List ℕ) (need other : Bool) → is_fresh_of needed old path ≡ need
+      → is_one_of path (map string_bytes others.items) ≡ other
       → (if other then None else said_in known path) ≡ option_and_then said_if_fresh (if need then old path else None)
   left_by path true true e f = absurd (false≢true (sym (leaves.apart path e) ∙ f))
   left_by path true false e f = says path
@@ -313,15 +350,18 @@ module _ (world : World) (rows : ShownRows) (paths : List (List ℕ)) (stage : S
   -- what a stage has passed by its own rows
   pub passed-known : HasPassed world stage stage.place
   passed-known =
-      decided-same world (fresh rows) (entries_in stage.known) (λ path. sym (entries-fresh rows stage.known is.knows path)) (take stage.place (paths_of stage)) is.passed
+      decided-same world (fresh rows) (entries_in stage.known) (λ path. sym (entries-fresh rows stage.known is.knows path))
+          (take stage.place (paths_of stage)) is.passed
 
   -- a stage that has come to a place
-  pub stage-at : (place : ℕ) → HasPassed world stage place → (more : Stage) → more ≡ record stage { place = place } → IsStage world rows paths more
+  pub stage-at : (place : ℕ) → HasPassed world stage place → (more : Stage) → more ≡ record stage { place = place }
+      → IsStage world rows paths more
   stage-at place passed more same = subst (IsStage world rows paths) (sym same) (record {
     among = is.among;
     others = is.others;
     knows = is.knows;
-    passed = decided-same world (entries_in stage.known) (fresh rows) (entries-fresh rows stage.known is.knows) (take place (paths_of stage)) passed;
+    passed = decided-same world (entries_in stage.known) (fresh rows) (entries-fresh rows stage.known is.knows)
+        (take place (paths_of stage)) passed;
   })
 
   pub lacking-at : ((path : List ℕ) → is_one_of path paths ≡ true → is_one_of path (needed_paths world) ≡ true)
@@ -330,11 +370,14 @@ module _ (world : World) (rows : ShownRows) (paths : List (List ℕ)) (stage : S
       let path = string_bytes found.path in
       record {
         needed = needed path (is.among path lacks.among);
-        lacking = lacking-of world (fresh rows) path (there-found world found lacks.found) (sym (entries-fresh rows stage.known is.knows path) ∙ lacks.lacking);
+        lacking = lacking-of world (fresh rows) path (there-found world found lacks.found)
+            (sym (entries-fresh rows stage.known is.knows path) ∙ lacks.lacking);
       }
 
-  decided_by : LacksNone world stage → (path : List ℕ) → is_one_of path paths ≡ true → (among : Bool) → is_one_of path (paths_of stage) ≡ among → is_some (decided world (fresh rows) path) ≡ true
-  decided_by none path one true e = decided-same world (entries_in stage.known) (fresh rows) (entries-fresh rows stage.known is.knows) (paths_of stage) none path e
+  decided_by : LacksNone world stage → (path : List ℕ) → is_one_of path paths ≡ true → (among : Bool)
+      → is_one_of path (paths_of stage) ≡ among → is_some (decided world (fresh rows) path) ≡ true
+  decided_by none path one true e = decided-same world (entries_in stage.known) (fresh rows) (entries-fresh rows stage.known is.knows)
+      (paths_of stage) none path e
   decided_by none path one false e = is.others path one e
 
   -- at its end, it is known of all paths what they lead to
@@ -342,12 +385,15 @@ module _ (world : World) (rows : ShownRows) (paths : List (List ℕ)) (stage : S
   all-decided none path one = decided_by none path one (is_one_of path (paths_of stage)) refl
 
 -- a stage that begins
-pub none-passed : (world : World) (entries : List ℕ → Option PathOutcome) (place : ℕ) (paths : List (List ℕ)) → place ≡ 0 → AreDecided world entries (take place paths)
+pub none-passed : (world : World) (entries : List ℕ → Option PathOutcome) (place : ℕ) (paths : List (List ℕ)) → place ≡ 0
+    → AreDecided world entries (take place paths)
 none-passed world entries place paths begins path one = absurd (false≢true (sym (ap (λ n. is_one_of path (take n paths)) begins) ∙ one))
 
 -- the stage of listed paths comes after that of directories
-pub IsListedStage-after : (world : World) (rows : ShownRows) → AreKept world rows → KnownRowsAreEnough → (first : DirectoryStage) (next : ListedStage)
-    → IsDirectoryStage world rows first → AreDecided world (fresh rows) (directories (files_in world)) → ListsPaths world rows first next → IsListedStage world rows next
+pub IsListedStage-after : (world : World) (rows : ShownRows) → AreKept world rows → KnownRowsAreEnough
+    → (first : DirectoryStage) (next : ListedStage)
+    → IsDirectoryStage world rows first → AreDecided world (fresh rows) (directories (files_in world)) → ListsPaths world rows first next
+    → IsListedStage world rows next
 IsListedStage-after world rows kept enough first next is are lists =
     let knows = subst (Says rows) (sym lists.known) is.stage.knows in
     let listed : listed_of next ≡ listed_paths world =
@@ -356,7 +402,8 @@ IsListedStage-after world rows kept enough first next is are lists =
     record {
       stage = record {
         among = λ path one. ap (is_one_of path) (sym listed) ∙ lists.among path one;
-        others = λ path one apart. decided-one world (entries_in next.stage.known) (fresh rows) (entries-fresh rows next.stage.known knows) path
+        others = λ path one apart. decided-one world (entries_in next.stage.known) (fresh rows)
+            (entries-fresh rows next.stage.known knows) path
             (lists.others path (ap (is_one_of path) listed ∙ one) apart);
         knows = knows;
         passed = none-passed world (fresh rows) next.stage.place (paths_of next.stage) lists.place;
@@ -368,10 +415,12 @@ IsListedStage-after world rows kept enough first next is are lists =
 
 -- ---- the last stage
 
-module _ (law : AlikeRowsListTheSame) (enough : KnownRowsAreEnough) (world : World) (rows : ShownRows) (next : ListedStage) (has : HasListed world rows next) where
+module _ (law : AlikeRowsListTheSame) (enough : KnownRowsAreEnough) (world : World) (rows : ShownRows) (next : ListedStage)
+    (has : HasListed world rows next) where
   known_listed : AreDecided world (entries_in next.stage.known) (listed_of next)
   known_listed = subst (AreDecided world (entries_in next.stage.known)) (sym has.far.listed)
-      (decided-same world (fresh rows) (entries_in next.stage.known) (λ path. sym (entries-fresh rows next.stage.known has.far.stage.knows path)) (listed_paths world) has.known)
+      (decided-same world (fresh rows) (entries_in next.stage.known)
+          (λ path. sym (entries-fresh rows next.stage.known has.far.stage.knows path)) (listed_paths world) has.known)
 
   pub needed-listed : needed_among (known_in (entries_in next.stage.known)) (listed_of next) ≡ needed_paths world
   needed-listed =
@@ -383,14 +432,18 @@ module _ (law : AlikeRowsListTheSame) (enough : KnownRowsAreEnough) (world : Wor
     needed_same : needed_of next.stage.known (listed_of next) last ≡ needed_paths world
     needed_same =
         sym (law.needed (led_to next.stage.known last.outdated) (known_in (entries_in next.stage.known)) (listed_of next)
-        (alike-fresh world next.stage.known last.outdated (listed_of next) known_listed (λ path some. (recalls.alone path (recalls.outdated path some)).1)))
+        (alike-fresh world next.stage.known last.outdated (listed_of next) known_listed
+            (λ path some. (recalls.alone path (recalls.outdated path some)).1)))
         ∙ needed-listed
 
-    other_at : (path : List ℕ) → is_one_of path (needed_paths world) ≡ true → is_one_of path (paths_in last) ≡ false → (some : Bool) → is_some (rows path) ≡ some
+    other_at : (path : List ℕ) → is_one_of path (needed_paths world) ≡ true → is_one_of path (paths_in last) ≡ false → (some : Bool)
+        → is_some (rows path) ≡ some
         → is_some (decided world (fresh rows) path) ≡ true
     other_at path one apart true e =
-        decided-known world (fresh rows) path (ap is_some (sym (entries-fresh rows next.stage.known has.far.stage.knows path)) ∙ recalls.fresh path e apart)
-    other_at path one apart false e = decided-absent world (fresh rows) path (recalls.missing path (ap (is_one_of path) needed_same ∙ one) e)
+        decided-known world (fresh rows) path (ap is_some (sym (entries-fresh rows next.stage.known has.far.stage.knows path))
+            ∙ recalls.fresh path e apart)
+    other_at path one apart false e = decided-absent world (fresh rows) path
+        (recalls.missing path (ap (is_one_of path) needed_same ∙ one) e)
 
     pub last-kept : (stage : Stage) → stage ≡ record { paths = last.paths; place = 0; known = next.stage.known }
         → IsLastStage world rows (record { stage = stage; directories = next.directories; listed = next.listed; beside = None })
@@ -407,7 +460,8 @@ module _ (law : AlikeRowsListTheSame) (enough : KnownRowsAreEnough) (world : Wor
     }
 
   -- the paths beside the listed ones are looked for
-  module _ (named : NeededAreNamed) (of_directories : AreOfDirectories world) (beside : Vec (String Global) Global) (are : AreBeside world next.stage.known (listed_of next) (map string_bytes beside.items)) where
+  module _ (named : NeededAreNamed) (of_directories : AreOfDirectories world) (beside : Vec (String Global) Global)
+      (are : AreBeside world next.stage.known (listed_of next) (map string_bytes beside.items)) where
     abbrev paths : List (List ℕ)
     paths = map string_bytes beside.items
 
@@ -431,7 +485,8 @@ module _ (law : AlikeRowsListTheSame) (enough : KnownRowsAreEnough) (world : Wor
     all_then false true t h plain e f = and_from t h f e
 
     needed_one : (path : List ℕ) → is_one_of path paths ≡ true → is_one_of path (needed_paths world) ≡ true
-    needed_one path one = needed_is path ∙ one_then (is_one_of path (listed_of next)) (has_comma path) (is_target path) (there path) (sym (are.are path) ∙ one)
+    needed_one path one = needed_is path ∙ one_then (is_one_of path (listed_of next)) (has_comma path) (is_target path) (there path)
+        (sym (are.are path) ∙ one)
 
     there_makefile : (path : List ℕ) → has_makefile world path ≡ true → there path ≡ true
     there_makefile path makefile = or_right (is_some (entries_in next.stage.known path)) (has_makefile world path) makefile
@@ -439,33 +494,41 @@ module _ (law : AlikeRowsListTheSame) (enough : KnownRowsAreEnough) (world : Wor
     -- without a comma, a path with a makefile is a directory, and so is listed
     listed_plain : (path : List ℕ) → has_makefile world path ≡ true → has_comma path ≡ false → is_one_of path (listed_of next) ≡ true
     listed_plain path makefile plain =
-        ap (is_one_of path) has.far.listed ∙ listed-from (outcome_at world) (directories (files_in world)) path (of_directories path plain makefile)
+        ap (is_one_of path) has.far.listed ∙ listed-from (outcome_at world) (directories (files_in world)) path
+            (of_directories path plain makefile)
 
-    among_all : (path : List ℕ) → has_makefile world path ≡ true → is_one_of path (needed_paths world) ≡ true → (is_one_of path (listed_of next) || is_one_of path paths) ≡ true
+    among_all : (path : List ℕ) → has_makefile world path ≡ true → is_one_of path (needed_paths world) ≡ true
+        → (is_one_of path (listed_of next) || is_one_of path paths) ≡ true
     among_all path makefile one =
         ap (λ b. is_one_of path (listed_of next) || b) (are.are path)
-        ∙ all_then (is_one_of path (listed_of next)) (has_comma path) (is_target path) (there path) (listed_plain path makefile) (there_makefile path makefile) (sym (needed_is path) ∙ one)
+        ∙ all_then (is_one_of path (listed_of next)) (has_comma path) (is_target path) (there path) (listed_plain path makefile)
+            (there_makefile path makefile) (sym (needed_is path) ∙ one)
 
     pub needed-beside : AreNeededBeside world beside
     needed-beside = record {
       ordered = are.ordered;
       needed = needed_one;
-      all = λ path makefile one. ap (λ listed. is_one_of path listed || is_one_of path paths) (sym has.far.listed) ∙ among_all path makefile one;
+      all = λ path makefile one. ap (λ listed. is_one_of path listed || is_one_of path paths) (sym has.far.listed)
+          ∙ among_all path makefile one;
     }
 
     module _ (lacking : Vec (String Global) Global)
-        (lacks : (path : List ℕ) → is_one_of path (map string_bytes lacking.items) ≡ (is_one_of path paths && is_none (entries_in next.stage.known path))) where
-      known_at : (path : List ℕ) (row : Option PathOutcome) → entries_in next.stage.known path ≡ row → (true && is_none row) ≡ false → is_some (decided world (entries_in next.stage.known) path) ≡ true
+        (lacks : (path : List ℕ) → is_one_of path (map string_bytes lacking.items) ≡
+            (is_one_of path paths && is_none (entries_in next.stage.known path))) where
+      known_at : (path : List ℕ) (row : Option PathOutcome) → entries_in next.stage.known path ≡ row → (true && is_none row) ≡ false
+          → is_some (decided world (entries_in next.stage.known) path) ≡ true
       known_at path None e out = absurd (false≢true (sym out))
       known_at path (Some row) e out = decided-known world (entries_in next.stage.known) path (ap is_some e)
 
       known_by_list : (path : List ℕ) (listed : Bool) → is_one_of path (listed_of next) ≡ listed → (listed || is_one_of path paths) ≡ true
-          → (is_one_of path paths && is_none (entries_in next.stage.known path)) ≡ false → is_some (decided world (entries_in next.stage.known) path) ≡ true
+          → (is_one_of path paths && is_none (entries_in next.stage.known path)) ≡ false
+          → is_some (decided world (entries_in next.stage.known) path) ≡ true
       known_by_list path true e one out = known_listed path e
       known_by_list path false e one out =
           known_at path (entries_in next.stage.known path) refl (ap (λ b. b && is_none (entries_in next.stage.known path)) (sym one) ∙ out)
 
-      other_of : (path : List ℕ) → is_one_of path (needed_paths world) ≡ true → is_one_of path (map string_bytes lacking.items) ≡ false → (makefile : Bool) → has_makefile world path ≡ makefile
+      other_of : (path : List ℕ) → is_one_of path (needed_paths world) ≡ true → is_one_of path (map string_bytes lacking.items) ≡ false
+          → (makefile : Bool) → has_makefile world path ≡ makefile
           → is_some (decided world (fresh rows) path) ≡ true
       other_of path one out false e = decided-absent world (fresh rows) path e
       other_of path one out true e =
@@ -490,7 +553,8 @@ module _ (law : AlikeRowsListTheSame) (enough : KnownRowsAreEnough) (world : Wor
       }
 
 -- the last stage has come to a place
-pub last-at : (world : World) (rows : ShownRows) (last : LastStage) → IsLastStage world rows last → (place : ℕ) → HasPassed world last.stage place
+pub last-at : (world : World) (rows : ShownRows) (last : LastStage) → IsLastStage world rows last → (place : ℕ)
+    → HasPassed world last.stage place
     → (more : Stage) → more ≡ record last.stage { place = place } → IsLastStage world rows (record last { stage = more })
 last-at world rows last is place passed more same = record {
   stage = stage-at world rows (needed_paths world) last.stage is.stage place passed more same;
@@ -501,11 +565,15 @@ last-at world rows last is place passed more same = record {
 
 -- ---- the row of a path is made, and written
 
-module _ (world : World) (old new : ShownRows) (walk : Walk) (path : List ℕ) (ready : IsReadyFor world old walk path) (made : MadeRow) (is : IsMade world path made)
-    (puts : (other : List ℕ) → new other ≡ (if bytes_eq (string_bytes made.path) other then Some (record { row = kept_row_seen made.row; stale = false }) else old other)) where
+module _ (world : World) (old new : ShownRows) (walk : Walk) (path : List ℕ) (ready : IsReadyFor world old walk path) (made : MadeRow)
+    (is : IsMade world path made)
+    (puts : (other : List ℕ)
+        → new other ≡ (if bytes_eq (string_bytes made.path) other then Some (record { row = kept_row_seen made.row; stale = false })
+        else old other)) where
   put_fresh : (other : List ℕ) → new other ≡ (if bytes_eq path other then Some (fresh_row world path) else old other)
   put_fresh other =
-      puts other ∙ ap (λ (r : RowValue). if bytes_eq (string_bytes made.path) other then Some (let one : ShownRow = record { row = r; stale = false } in one) else old other) is.row.same
+      puts other ∙ ap (λ (r : RowValue). if bytes_eq (string_bytes made.path) other then Some
+          (let one : ShownRow = record { row = r; stale = false } in one) else old other) is.row.same
       ∙ ap (λ at. if bytes_eq at other then Some (fresh_row world path) else old other) is.at
 
   itself : IsRightRow world path (right_row world path)
@@ -517,7 +585,8 @@ module _ (world : World) (old new : ShownRows) (walk : Walk) (path : List ℕ) (
   pub kept-made : AreKept world new
   kept-made = AreKept-put world old ready.kept path itself makefile new put_fresh
 
-  there_by : (other : List ℕ) (same : Bool) → is_some (if same then Some (fresh_row world path) else old other) ≡ (same || is_some (old other))
+  there_by : (other : List ℕ) (same : Bool) → is_some (if same then Some (fresh_row world path) else old other) ≡
+      (same || is_some (old other))
   there_by other true = refl
   there_by other false = refl
 
@@ -527,7 +596,8 @@ module _ (world : World) (old new : ShownRows) (walk : Walk) (path : List ℕ) (
     says = λ other. said-put world old ready.kept path itself makefile new put_fresh other
         ∙ ap (λ (r : RowValue). if bytes_eq path other then Some (said_by r) else fresh_said old other) (sym is.row.same)
         ∙ ap (λ at. if bytes_eq at other then Some (said_by (kept_row_seen made.row)) else fresh_said old other) (sym is.at);
-    there = λ other. ap is_some (put_fresh other) ∙ there_by other (bytes_eq path other) ∙ ap (λ at. bytes_eq at other || is_some (old other)) (sym is.at);
+    there = λ other. ap is_some (put_fresh other) ∙ there_by other (bytes_eq path other)
+        ∙ ap (λ at. bytes_eq at other || is_some (old other)) (sym is.at);
   }
 
   renews-made : (spent : Spent) → spent ≡ made.spent → RenewsRow world old new spent
@@ -540,7 +610,8 @@ module _ (world : World) (old new : ShownRows) (walk : Walk) (path : List ℕ) (
   }
 
   -- in a turn, before which so much was spent on it
-  pub evaluates-made : (units : ℕ) (before spent : Spent) → spent_in_all before spent ≡ made.spent → MakesInTime world (cost_at world path) (pair_at world path) units before made.spent → IsShort units before made.spent
+  pub evaluates-made : (units : ℕ) (before spent : Spent) → spent_in_all before spent ≡ made.spent → MakesInTime world (cost_at world path)
+      (pair_at world path) units before made.spent → IsShort units before made.spent
       → Evaluates world units (refresh_at old before) (refresh_at new no_spending) spent
   unfolding renews-made
   evaluates-made units before spent same in_time short = record {

@@ -1,5 +1,6 @@
 -- What is read before bytes, step by step, and what written bytes are read as.
-use Rattle.std.proofs.Common.{◌≡◌, ℕ, ◌^◌, ◌<◌, false, ltb, List, [], ◌∷◌, ◌++◌, length, Option, Some, None, refl, sym, ap, ◌∙◌, append_assoc, arith, IsUtf8}
+use Rattle.std.proofs.Common.{◌≡◌, ℕ, ◌^◌, ◌<◌, false, ltb, List, [], ◌∷◌, ◌++◌, length, Option, Some, None, refl, sym, ap, ◌∙◌}
+use Rattle.std.proofs.Common.{append_assoc, arith, IsUtf8}
 use Rattle.std.specs.Int.{Width, w64, byte_len, from_le_bytes, to_le_bytes}
 use Rattle.std.proofs.lemmas.Bool.{le-ltb}
 use Rattle.std.proofs.lemmas.List.{take_at, drop_at, length-append, append-nil}
@@ -45,13 +46,16 @@ stretch-front front rest count is =
     rw (long, take_at front rest count is, drop_at front rest count is) refl
 
 pub Adds-stretch : (old new front : List ℕ) → new ≡ old ++ front → Adds (stretch (length front)) old new front
-Adds-stretch old new front more = record { added = front; are_added = more; are_read = λ rest. stretch-front front rest (length front) refl }
+Adds-stretch old new front more = record { added = front; are_added = more; are_read = λ rest. stretch-front front
+    rest (length front) refl }
 
-number-front : (width : Width) (n : ℕ) (rest : List ℕ) → length (to_le_bytes width n) ≡ byte_len width → from_le_bytes width (to_le_bytes width n) ≡ n
+number-front : (width : Width) (n : ℕ) (rest : List ℕ) → length (to_le_bytes width n) ≡ byte_len width
+    → from_le_bytes width (to_le_bytes width n) ≡ n
     → number width (to_le_bytes width n ++ rest) ≡ Some (n, rest)
 unfolding number
 number-front width n rest long same =
-    ap (λ found. read_after found (λ digits. give (from_le_bytes width digits))) (stretch-front (to_le_bytes width n) rest (byte_len width) long)
+    ap (λ found. read_after found (λ digits. give (from_le_bytes width digits)))
+        (stretch-front (to_le_bytes width n) rest (byte_len width) long)
     ∙ ap (λ (value : ℕ). Some (value, rest)) same
 
 pub Adds-number : (old new : List ℕ) (n : ℕ) → n < 2 ^ 64 → new ≡ old ++ to_le_bytes w64 n → Adds (number w64) old new n
@@ -80,7 +84,8 @@ text-by bytes rest left found count read counted cut tested =
     ∙ ap (λ two. read_after two (λ found. utf8_text found)) cut
     ∙ tested
 
-pub Adds-text : (old mid new written : List ℕ) → IsUtf8 written → Adds (number w64) old mid (length written) → new ≡ mid ++ written → Adds text old new written
+pub Adds-text : (old mid new written : List ℕ) → IsUtf8 written → Adds (number w64) old mid (length written) → new ≡ mid ++ written
+    → Adds text old new written
 unfolding text
 Adds-text old mid new written good counted more =
     Adds-then (number w64) (λ count. stretch count >>= λ found. utf8_text found) old mid new (length written) written counted

@@ -31,7 +31,8 @@ kind_of-number_of kinds.NoName = refl
 kind_of-number_of kinds.BadName = refl
 kind_of-number_of kinds.Questions = refl
 
-pub Adds-fault_kind : (old new : List ℕ) (kind : FaultKind) (value : ℕ) → value ≡ fault_number kind → Adds byte old new value → Adds fault_kind old new kind
+pub Adds-fault_kind : (old new : List ℕ) (kind : FaultKind) (value : ℕ) → value ≡ fault_number kind → Adds byte old new value
+    → Adds fault_kind old new kind
 unfolding fault_kind
 Adds-fault_kind old new kind value is one =
     Adds-then byte (λ found. give_if_some (kind_of found)) old new new (fault_number kind) kind (subst (Adds byte old new) is one)
@@ -43,8 +44,10 @@ pub Adds-fault : (old one two new : List ℕ) (kind : FaultKind) (name : List �
 unfolding fault
 Adds-fault old one two new kind name line written p q r same_kind same_name same_line =
     let same : fault_at kind name line ≡ written =
-    ap (λ k. fault_at k name line) same_kind ∙ ap (λ n. fault_at written.kind n line) same_name ∙ ap (λ l. fault_at written.kind written.name l) same_line in
+    ap (λ k. fault_at k name line) same_kind ∙ ap (λ n. fault_at written.kind n line) same_name
+        ∙ ap (λ l. fault_at written.kind written.name l) same_line in
     subst (Adds fault old new) same
-    (Adds-then fault_kind (λ kind. text >>= λ name. number w64 >>= λ line. give (fault_at kind name line)) old one new kind (fault_at kind name line) p
+    (Adds-then fault_kind (λ kind. text >>= λ name. number w64 >>= λ line. give (fault_at kind name line)) old one new kind
+        (fault_at kind name line) p
     (Adds-then text (λ name. number w64 >>= λ line. give (fault_at kind name line)) one two new name (fault_at kind name line) q
     (Adds-last (number w64) (λ line. fault_at kind name line) two new line r)))

@@ -9,15 +9,18 @@ use Rattle.index_row.specs.Answers.{Adds}
 use Rattle.index_row.proofs.Adding.{Adds-then, Adds-last}
 
 -- the number of a kind, and then what follows it
-pub Adds-outcome : (old mid new : List ℕ) (kind : ℕ) (value : PathOutcome) → Adds byte old mid kind → Adds (outcome_of_kind kind) mid new value → Adds outcome old new value
+pub Adds-outcome : (old mid new : List ℕ) (kind : ℕ) (value : PathOutcome) → Adds byte old mid kind → Adds (outcome_of_kind kind) mid new
+    value → Adds outcome old new value
 unfolding outcome
 Adds-outcome old mid new kind value one more = Adds-then byte (λ kind. outcome_of_kind kind) old mid new kind value one more
 
-pub Adds-row : (old one two new : List ℕ) (value : PathOutcome) (cost : ℕ) (names : List (List ℕ)) → Adds outcome old one value → Adds (number w64) one two cost
+pub Adds-row : (old one two new : List ℕ) (value : PathOutcome) (cost : ℕ) (names : List (List ℕ)) → Adds outcome old one value
+    → Adds (number w64) one two cost
     → Adds texts two new names → Adds row old new (make_row value cost names)
 unfolding row
 Adds-row old one two new value cost names p q r =
-    Adds-then outcome (λ value. number w64 >>= λ cost. texts >>= λ names. give (make_row value cost names)) old one new value (make_row value cost names) p
+    Adds-then outcome (λ value. number w64 >>= λ cost. texts >>= λ names. give (make_row value cost names)) old one new value
+        (make_row value cost names) p
     (Adds-then (number w64) (λ cost. texts >>= λ names. give (make_row value cost names)) one two new cost (make_row value cost names) q
     (Adds-last texts (make_row value cost) two new names r))
 

@@ -102,7 +102,8 @@ module _ (rows : Rows) (settled : AreSettled rows) where
   first : (path : List ℕ) (value : StoredValue) → stored_of (rows Earlier) path ≡ Some value → stored_of (all_of rows) path ≡ Some value
   first path value = go (rows Earlier path)
     where
-      go : (o : Option Entry) → option_map value_stored o ≡ Some value → option_map value_stored (option_or o (rows Current path)) ≡ Some value
+      go : (o : Option Entry) → option_map value_stored o ≡ Some value
+          → option_map value_stored (option_or o (rows Current path)) ≡ Some value
       go None is = absurd cc
       go (Some e) is = is
 

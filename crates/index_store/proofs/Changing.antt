@@ -53,7 +53,8 @@ port_change Earlier old new rows formed inside h =
             each_part (λ part. AreFilled (layout part) (new.now.trees (tree_number part))) h.filled filled;
       };
       are =
-          by_part (rows_at new.now.trees) (with_rows Earlier rows (rows_at old.now.trees)) h.are (ap (entries_of_rows (layout Current)) others);
+          by_part (rows_at new.now.trees) (with_rows Earlier rows (rows_at old.now.trees)) h.are
+              (ap (entries_of_rows (layout Current)) others);
     }
 port_change Current old new rows formed inside h =
     let others : new.now.trees 0 ≡ old.now.trees 0 = h.others.0 (λ e. absurd cc) in
@@ -66,7 +67,8 @@ port_change Current old new rows formed inside h =
             each_part (λ part. AreFilled (layout part) (new.now.trees (tree_number part))) filled h.filled;
       };
       are =
-          by_part (rows_at new.now.trees) (with_rows Current rows (rows_at old.now.trees)) (ap (entries_of_rows (layout Earlier)) others) h.are;
+          by_part (rows_at new.now.trees) (with_rows Current rows (rows_at old.now.trees))
+              (ap (entries_of_rows (layout Earlier)) others) h.are;
     }
 
 -- ---- the marks of rows

@@ -19,7 +19,8 @@ use Rattle.sql_facts.proofs.Statements.{IsTableAt, Says, Queries, those_of}
 use Rattle.sql_facts.proofs.Tests.{same_number, alone}
 use Rattle.index_store.specs.declared.statements.Part.{Part}
 use Rattle.index_store.specs.declared.statements.Part.TheVariants.{Earlier, Current}
-use Rattle.index_store.specs.PortTable.{IsFormed, earlier_schema, port_schema, earlier_table, current_table, tree_number, layout, leaving_mark}
+use Rattle.index_store.specs.PortTable.{IsFormed, earlier_schema, port_schema, earlier_table, current_table, tree_number, layout}
+use Rattle.index_store.specs.PortTable.{leaving_mark}
 use Rattle.index_store.specs.PortTable.{create_earlier, create_current, insert_earlier, insert_current, update_current}
 use Rattle.index_store.specs.PortTable.{mark_row, mark_rows, delete_rows, select_rows}
 

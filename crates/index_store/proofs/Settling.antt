@@ -114,7 +114,8 @@ module _ (rows : Rows) (settled : AreSettled rows) where
   after_all change other = (after_one change other).together
 
 -- where the release before may have no row, a change gives it none
-pub after_allowed : (has_earlier : Bool) (change : Change) (rows : Rows) → IsAllowedChange has_earlier change rows → AllowsFor has_earlier rows
+pub after_allowed : (has_earlier : Bool) (change : Change) (rows : Rows) → IsAllowedChange has_earlier change rows
+    → AllowsFor has_earlier rows
     → AllowsFor has_earlier (rows_after change rows)
 after_allowed has_earlier (Put is_new path profile text) rows free allows off =
     ap (without path.now) (allows off) ∙ ap staying_of (none_marked leaving_mark path.now)

@@ -2,7 +2,8 @@
 use Rattle.std.proofs.Common.{◌≡◌, ℕ, max, List, [], ◌∷◌, ◌++◌, refl, sym, ap, ◌∙◌, append_assoc, append-nil, arith}
 use Rattle.mk_text.specs.Lines.{LogicalLine}
 use Rattle.mk_ast.specs.Parts.{Part, ElifPart}
-use Rattle.mk_ast.specs.Trees.{Tree, Block, EmptyBlock, MoreBlock, Branches, tree_parts, block_parts, branch_parts, tree_depth, block_depth, branch_depth}
+use Rattle.mk_ast.specs.Trees.{Tree, Block, EmptyBlock, MoreBlock, Branches, tree_parts, block_parts, branch_parts, tree_depth, block_depth}
+use Rattle.mk_ast.specs.Trees.{branch_depth}
 use Rattle.mk_ast.specs.Blocks.{add, branches_from}
 
 pub parts-add : (block : Block) (last : Tree) → block_parts (add block last) ≡ block_parts block ++ tree_parts last
@@ -28,19 +29,23 @@ pub parts-listed : (later : List (LogicalLine × Block)) (line : LogicalLine) (b
 parts-listed [] line block = ap (λ l. ElifPart line ∷ l) (append-nil (block_parts block))
 parts-listed (branch ∷ more) line block =
     ap (λ l. ElifPart branch.0 ∷ l)
-    (ap (λ l. block_parts branch.1 ++ l) (parts-listed more line block) ∙ sym (append_assoc (block_parts branch.1) (listed_parts more) (ElifPart line ∷ block_parts block)))
+    (ap (λ l. block_parts branch.1 ++ l) (parts-listed more line block)
+        ∙ sym (append_assoc (block_parts branch.1) (listed_parts more) (ElifPart line ∷ block_parts block)))
 
 pub depth-listed : (later : List (LogicalLine × Block)) (line : LogicalLine) (block : Block)
     → listed_depth (later ++ (line, block) ∷ []) ≡ max (listed_depth later) (block_depth block)
 depth-listed [] line block = omega arith
 depth-listed (branch ∷ more) line block = omega (arith, depth-listed more line block)
 
-pub parts-from : (later : List (LogicalLine × Block)) (end : Branches) → branch_parts (branches_from later end) ≡ listed_parts later ++ branch_parts end
+pub parts-from : (later : List (LogicalLine × Block)) (end : Branches) → branch_parts (branches_from later end) ≡ listed_parts
+    later ++ branch_parts end
 parts-from [] end = refl
 parts-from (branch ∷ more) end =
     ap (λ l. ElifPart branch.0 ∷ l)
-    (ap (λ l. block_parts branch.1 ++ l) (parts-from more end) ∙ sym (append_assoc (block_parts branch.1) (listed_parts more) (branch_parts end)))
+    (ap (λ l. block_parts branch.1 ++ l) (parts-from more end)
+        ∙ sym (append_assoc (block_parts branch.1) (listed_parts more) (branch_parts end)))
 
-pub depth-from : (later : List (LogicalLine × Block)) (end : Branches) → branch_depth (branches_from later end) ≡ max (listed_depth later) (branch_depth end)
+pub depth-from : (later : List (LogicalLine × Block)) (end : Branches) → branch_depth (branches_from later end) ≡ max
+    (listed_depth later) (branch_depth end)
 depth-from [] end = omega arith
 depth-from (branch ∷ more) end = omega (arith, depth-from more end)

@@ -7,15 +7,18 @@ use Rattle.mk_ast.specs.Blocks.{branches_from, Stage, InIf, InElif, InElse, InFo
 
 -- a property of each effect that a part can have on an open block, and of none
 pub record HoldsOfEffects (P : LogicalLine → Stage → Block → Part → PartEffect → Type 0) : Type 0 where
-  pub if_elif : (head : LogicalLine) (block : Block) (line : LogicalLine) → P head InIf block (ElifPart line) (GoesOn (InElif block [] line))
+  pub if_elif : (head : LogicalLine) (block : Block) (line : LogicalLine)
+      → P head InIf block (ElifPart line) (GoesOn (InElif block [] line))
   pub if_else : (head : LogicalLine) (block : Block) → P head InIf block ElsePart (GoesOn (InElse block []))
   pub if_endif : (head : LogicalLine) (block : Block) → P head InIf block EndifPart (Ends (ChoiceTree head block NoBranches))
-  pub elif_elif : (head : LogicalLine) (first : Block) (later : List (LogicalLine × Block)) (last : LogicalLine) (block : Block) (line : LogicalLine)
+  pub elif_elif : (head : LogicalLine) (first : Block) (later : List (LogicalLine × Block)) (last : LogicalLine)
+      (block : Block) (line : LogicalLine)
       → P head (InElif first later last) block (ElifPart line) (GoesOn (InElif first (later ++ (last, block) ∷ []) line))
   pub elif_else : (head : LogicalLine) (first : Block) (later : List (LogicalLine × Block)) (last : LogicalLine) (block : Block)
       → P head (InElif first later last) block ElsePart (GoesOn (InElse first (later ++ (last, block) ∷ [])))
   pub elif_endif : (head : LogicalLine) (first : Block) (later : List (LogicalLine × Block)) (last : LogicalLine) (block : Block)
-      → P head (InElif first later last) block EndifPart (Ends (ChoiceTree head first (branches_from (later ++ (last, block) ∷ []) NoBranches)))
+      → P head (InElif first later last) block EndifPart
+          (Ends (ChoiceTree head first (branches_from (later ++ (last, block) ∷ []) NoBranches)))
   pub else_endif : (head : LogicalLine) (first : Block) (later : List (LogicalLine × Block)) (block : Block)
       → P head (InElse first later) block EndifPart (Ends (ChoiceTree head first (branches_from later (ElseBranch block))))
   pub for_endfor : (head : LogicalLine) (block : Block) → P head InFor block EndforPart (Ends (LoopTree head block))

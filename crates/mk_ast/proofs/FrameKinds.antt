@@ -1,12 +1,15 @@
 -- Only a directive frames a block, so a line's part is known from its directive.
-use Rattle.std.proofs.Common.{◌≡◌, ◌==◌, ◌&&◌, not, ◌+◌, drop, Bool, true, false, cond, ℕ, List, [], ◌∷◌, take, Option, Some, None, unwrap_or, refl, sym, subst}
+use Rattle.std.proofs.Common.{◌≡◌, ◌==◌, ◌&&◌, not, ◌+◌, drop, Bool, true, false, cond, ℕ, List, [], ◌∷◌, take, Option, Some, None}
+use Rattle.std.proofs.Common.{unwrap_or, refl, sym, subst}
 use Rattle.std.specs.List.{list_any, position}
 use Rattle.std.specs.Option.{option_and_then}
 use Rattle.std.proofs.lemmas.Bool.{eqb-true}
 use Rattle.mk_text.specs.Blanks.{skip_blanks, trim_blanks}
 use Rattle.mk_ref.specs.Outside.{outside}
 use Rattle.mk_text.specs.Lines.{LogicalLine}
-use Rattle.mk_ast.specs.Kinds.{TextLineKind, CommandLine, BlankLine, AssignmentLine, is_blank_line, is_command, directive_in, directive_after_dot, is_mark, is_word, in_front, operator_of, operator_start, assignment_at, assignment_in, kind_among, plain_kind, line_kind}
+use Rattle.mk_ast.specs.Kinds.{TextLineKind, CommandLine, BlankLine, AssignmentLine, is_blank_line, is_command, directive_in}
+use Rattle.mk_ast.specs.Kinds.{directive_after_dot, is_mark, is_word, in_front, operator_of, operator_start, assignment_at, assignment_in}
+use Rattle.mk_ast.specs.Kinds.{kind_among, plain_kind, line_kind}
 use Rattle.mk_ast.specs.Parts.{Part, PlainPart, part_by, part_of}
 
 -- a kind that frames no block
@@ -21,7 +24,8 @@ none-at : (text : List ℕ) (at : ℕ) → IfFramesNone (assignment_at text at)
 none-at text at =
     let start = operator_start text at in
     let name = trim_blanks (take start text) in
-    elim (is_word name && not (list_any is_mark (take start (outside text)))) as (λ b. IfFramesNone (cond b (Some (AssignmentLine (operator_of (in_front text at)) name (skip_blanks (drop (at + 1) text)))) None))
+    elim (is_word name && not (list_any is_mark (take start (outside text)))) as (λ b. IfFramesNone
+        (cond b (Some (AssignmentLine (operator_of (in_front text at)) name (skip_blanks (drop (at + 1) text)))) None))
     [ true ↦ λ line. refl | false ↦ tt ]
 
 none-after : (text : List ℕ) (at : Option ℕ) → IfFramesNone (option_and_then (assignment_at text) at)
@@ -46,7 +50,8 @@ abbrev pub part_among : LogicalLine → Option TextLineKind → Part
 part_among line None = PlainPart line
 part_among line (Some kind) = part_by line kind
 
-part-or : (line : LogicalLine) (text : List ℕ) (directive : Option TextLineKind) → part_by line (unwrap_or directive (plain_kind text)) ≡ part_among line directive
+part-or : (line : LogicalLine) (text : List ℕ) (directive : Option TextLineKind) → part_by line (unwrap_or directive (plain_kind text)) ≡
+    part_among line directive
 part-or line text None = none-plain text line
 part-or line text (Some kind) = refl
 
@@ -59,8 +64,10 @@ no-directive line (b ∷ rest) is =
 by-kind : (line : LogicalLine) (text : List ℕ) → part_by line (line_kind text) ≡ part_among line (directive_in text)
 unfolding line_kind
 by-kind line text =
-    let cases : (b : Bool) → is_command text ≡ b → part_by line (cond b CommandLine (unwrap_or (directive_in text) (plain_kind text))) ≡ part_among line (directive_in text) =
-    λ b. elim b as (λ b. is_command text ≡ b → part_by line (cond b CommandLine (unwrap_or (directive_in text) (plain_kind text))) ≡ part_among line (directive_in text))
+    let cases : (b : Bool) → is_command text ≡ b → part_by line (cond b CommandLine (unwrap_or (directive_in text) (plain_kind text))) ≡
+        part_among line (directive_in text) =
+    λ b. elim b as (λ b. is_command text ≡ b → part_by line (cond b CommandLine (unwrap_or (directive_in text) (plain_kind text))) ≡
+        part_among line (directive_in text))
     [ true ↦ λ is. no-directive line text is | false ↦ λ is. part-or line text (directive_in text) ] in
     cases (is_command text) refl
 

@@ -12,7 +12,8 @@ pub block-push : (nodes : List Node) (node : Node) → block_of (nodes ++ node �
 block-push [] node = refl
 block-push (first ∷ nodes) node = ap (MoreBlock (tree_of first)) (block-push nodes node)
 
-pub added : (nodes now : List Node) (node : Node) (tree : Tree) → now ≡ nodes ++ node ∷ [] → tree_of node ≡ tree → add (block_of nodes) tree ≡ block_of now
+pub added : (nodes now : List Node) (node : Node) (tree : Tree) → now ≡ nodes ++ node ∷ [] → tree_of node ≡ tree
+    → add (block_of nodes) tree ≡ block_of now
 added nodes now node tree is same = sym (ap block_of is ∙ block-push nodes node ∙ ap (add (block_of nodes)) same)
 
 pub tree-line : (line : LogicalLine) → tree_of (Line line) ≡ LineTree line

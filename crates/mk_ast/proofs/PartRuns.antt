@@ -1,10 +1,12 @@
 -- Reading parts in a run: what is held after them is theirs, and a block's parts add just that block.
-use Rattle.std.proofs.Common.{◌≡◌, ◌+◌, ◌<◌, ◌≤◌, ℕ, suc, List, [], ◌∷◌, ◌++◌, length, Option, Some, None, refl, sym, ap, subst, ◌∙◌, append_assoc, append-nil, arith}
+use Rattle.std.proofs.Common.{◌≡◌, ◌+◌, ◌<◌, ◌≤◌, ℕ, suc, List, [], ◌∷◌, ◌++◌, length, Option, Some, None, refl, sym, ap, subst, ◌∙◌}
+use Rattle.std.proofs.Common.{append_assoc, append-nil, arith}
 use Rattle.std.specs.Option.{option_and_then}
 use Rattle.std.proofs.lemmas.Bool.{cond_below}
 use Rattle.mk_text.specs.Lines.{LogicalLine}
 use Rattle.mk_ast.specs.Parts.{Part, IfPart, ElifPart, ElsePart, EndifPart, ForPart, EndforPart, PlainPart}
-use Rattle.mk_ast.specs.Trees.{Tree, LineTree, ChoiceTree, LoopTree, Block, EmptyBlock, MoreBlock, Branches, NoBranches, ElifBranch, ElseBranch, tree_parts, block_parts, branch_parts, tree_depth, block_depth, branch_depth}
+use Rattle.mk_ast.specs.Trees.{Tree, LineTree, ChoiceTree, LoopTree, Block, EmptyBlock, MoreBlock, Branches, NoBranches, ElifBranch}
+use Rattle.mk_ast.specs.Trees.{ElseBranch, tree_parts, block_parts, branch_parts, tree_depth, block_depth, branch_depth}
 use Rattle.mk_ast.specs.Blocks.{add, branches_from, Stage, InIf, InElif, InElse, InFor, Open, ReadingState, begin, step}
 use Rattle.mk_ast.proofs.StateParts.{state_parts, StepParts, parts-step}
 use Rattle.mk_ast.proofs.StateDepths.{IsWithin, IfWithin, within-step}
@@ -30,7 +32,8 @@ run-step limit held next part parts is = run-cons limit held part parts ∙ ap (
 
 then-run : (limit : ℕ) (first : Option ReadingState) (parts more : List Part)
     → ((held : ReadingState) → run limit held (parts ++ more) ≡ option_and_then (λ n. run limit n more) (run limit held parts))
-    → option_and_then (λ n. run limit n (parts ++ more)) first ≡ option_and_then (λ n. run limit n more) (option_and_then (λ n. run limit n parts) first)
+    → option_and_then (λ n. run limit n (parts ++ more)) first ≡ option_and_then (λ n. run limit n more)
+        (option_and_then (λ n. run limit n parts) first)
 then-run limit None parts more each = refl
 then-run limit (Some held) parts more each = each held
 
@@ -54,9 +57,11 @@ state-both : (limit : ℕ) (before : List Part) (part : Part) (parts : List Part
 state-both limit before part parts None same made within = tt
 state-both limit before part parts (Some held) same made within = record { made_of = made ∙ ap (λ l. l ++ part ∷ []) same; within = within }
 
-pub state-step : (limit : ℕ) (parts : List Part) (held : ReadingState) (part : Part) → IsStateAfter limit parts held → IfStateAfter limit (parts ++ part ∷ []) (step limit held part)
+pub state-step : (limit : ℕ) (parts : List Part) (held : ReadingState) (part : Part) → IsStateAfter limit parts held
+    → IfStateAfter limit (parts ++ part ∷ []) (step limit held part)
 state-step limit parts held part is =
-    state-both limit (state_parts held) part parts (step limit held part) is.made_of (parts-step limit held part) (within-step limit held part is.within)
+    state-both limit (state_parts held) part parts (step limit held part) is.made_of (parts-step limit held part)
+        (within-step limit held part is.within)
 
 state-then : (limit : ℕ) (whole front more : List Part) (first : Option ReadingState) → IfStateAfter limit front first
     → ((held : ReadingState) → IsStateAfter limit front held → IfStateAfter limit whole (run limit held more))
@@ -64,12 +69,14 @@ state-then : (limit : ℕ) (whole front more : List Part) (first : Option Readin
 state-then limit whole front more None is each = tt
 state-then limit whole front more (Some held) is each = each held is
 
-pub state-run : (limit : ℕ) (more parts : List Part) (held : ReadingState) → IsStateAfter limit parts held → IfStateAfter limit (parts ++ more) (run limit held more)
+pub state-run : (limit : ℕ) (more parts : List Part) (held : ReadingState) → IsStateAfter limit parts held
+    → IfStateAfter limit (parts ++ more) (run limit held more)
 unfolding run
 state-run limit [] parts held is = rw (append-nil parts) is
 state-run limit (part ∷ more) parts held is =
     state-then limit (parts ++ part ∷ more) (parts ++ part ∷ []) more (step limit held part) (state-step limit parts held part is)
-    (λ next has. subst (λ l. IfStateAfter limit l (run limit next more)) (append_assoc parts (part ∷ []) more) (state-run limit more (parts ++ part ∷ []) next has))
+    (λ next has. subst (λ l. IfStateAfter limit l (run limit next more)) (append_assoc parts (part ∷ []) more)
+        (state-run limit more (parts ++ part ∷ []) next has))
 
 -- a block with another after it
 abbrev pub join : Block → Block → Block
@@ -98,10 +105,12 @@ open_as before head stage = record { before = before; head = head; stage = stage
 
 begins : (limit : ℕ) (held : ReadingState) (line : LogicalLine) (stage : Stage) → length held.stack < limit
     → begin limit held line stage ≡ Some (state_as EmptyBlock (open_as held.current line stage ∷ held.stack))
-begins limit held line stage room = sym (cond_below (length held.stack) limit (Some (state_as EmptyBlock (open_as held.current line stage ∷ held.stack))) None room)
+begins limit held line stage room =
+    sym (cond_below (length held.stack) limit (Some (state_as EmptyBlock (open_as held.current line stage ∷ held.stack))) None room)
 
 -- parts of a choice and of a loop, with more after them
-choice_parts : (first end : Part) (body branches rest : List Part) → ((first ∷ body ++ branches) ++ end ∷ []) ++ rest ≡ first ∷ (body ++ (branches ++ end ∷ rest))
+choice_parts : (first end : Part) (body branches rest : List Part) → ((first ∷ body ++ branches) ++ end ∷ []) ++ rest ≡ first ∷
+    (body ++ (branches ++ end ∷ rest))
 choice_parts first end body branches rest =
     ap (λ l. first ∷ l) (append_assoc (body ++ branches) (end ∷ []) rest ∙ append_assoc body branches (end ∷ rest))
 
@@ -113,7 +122,8 @@ mutual
 
   pub run-tree : (tree : Tree) (limit : ℕ) (held : ReadingState) (rest : List Part) → tree_depth tree + length held.stack ≤ limit
       → run limit held (tree_parts tree ++ rest) ≡ run limit (state_as (add held.current tree) held.stack) rest
-  run-tree (LineTree line) limit held rest fits = run-step limit held (state_as (add held.current (LineTree line)) held.stack) (PlainPart line) rest refl
+  run-tree (LineTree line) limit held rest fits = run-step limit held (state_as (add held.current (LineTree line)) held.stack)
+      (PlainPart line) rest refl
   run-tree (ChoiceTree line block branches) limit held rest fits =
       let room : length held.stack < limit = omega arith in
       let inner : block_depth block + suc (length held.stack) ≤ limit = omega arith in
@@ -144,17 +154,20 @@ mutual
       ∙ ap (λ b. run limit (state_as b held.stack) rest) (join-add held.current tree block)
 
   -- the branches after the first
-  run-first : (branches : Branches) (limit : ℕ) (before : Block) (head : LogicalLine) (current : Block) (stack : List Open) (rest : List Part)
+  run-first : (branches : Branches) (limit : ℕ) (before : Block) (head : LogicalLine) (current : Block)
+      (stack : List Open) (rest : List Part)
       → branch_depth branches + suc (length stack) ≤ limit
       → run limit (state_as current (open_as before head InIf ∷ stack)) (branch_parts branches ++ EndifPart ∷ rest)
       ≡ run limit (state_as (add before (ChoiceTree head current branches)) stack) rest
   run-first NoBranches limit before head current stack rest fits =
-      run-step limit (state_as current (open_as before head InIf ∷ stack)) (state_as (add before (ChoiceTree head current NoBranches)) stack) EndifPart rest refl
+      run-step limit (state_as current (open_as before head InIf ∷ stack)) (state_as (add before (ChoiceTree head current NoBranches))
+          stack) EndifPart rest refl
   run-first (ElifBranch line block branches) limit before head current stack rest fits =
       let inner : block_depth block + suc (length stack) ≤ limit = omega arith in
       let later : branch_depth branches + suc (length stack) ≤ limit = omega arith in
       let opened = open_as before head (InElif current [] line) ∷ stack in
-      ap (λ l. run limit (state_as current (open_as before head InIf ∷ stack)) (ElifPart line ∷ l)) (append_assoc (block_parts block) (branch_parts branches) (EndifPart ∷ rest))
+      ap (λ l. run limit (state_as current (open_as before head InIf ∷ stack)) (ElifPart line ∷ l))
+          (append_assoc (block_parts block) (branch_parts branches) (EndifPart ∷ rest))
       ∙ run-step limit (state_as current (open_as before head InIf ∷ stack)) (state_as EmptyBlock opened) (ElifPart line) _ refl
       ∙ run-block block limit (state_as EmptyBlock opened) (branch_parts branches ++ EndifPart ∷ rest) inner
       ∙ run-later branches limit before head current [] line block stack rest later
@@ -162,15 +175,19 @@ mutual
       let opened = open_as before head (InElse current []) ∷ stack in
       run-step limit (state_as current (open_as before head InIf ∷ stack)) (state_as EmptyBlock opened) ElsePart _ refl
       ∙ run-block block limit (state_as EmptyBlock opened) (EndifPart ∷ rest) fits
-      ∙ run-step limit (state_as block opened) (state_as (add before (ChoiceTree head current (ElseBranch block))) stack) EndifPart rest refl
+      ∙ run-step limit (state_as block opened) (state_as (add before (ChoiceTree head current (ElseBranch block))) stack) EndifPart rest
+          refl
 
   -- the branches after one of `.elif`
-  run-later : (branches : Branches) (limit : ℕ) (before : Block) (head : LogicalLine) (first : Block) (listed : List (LogicalLine × Block)) (last : LogicalLine) (current : Block) (stack : List Open) (rest : List Part)
+  run-later : (branches : Branches) (limit : ℕ) (before : Block) (head : LogicalLine) (first : Block) (listed : List (LogicalLine × Block))
+      (last : LogicalLine) (current : Block) (stack : List Open) (rest : List Part)
       → branch_depth branches + suc (length stack) ≤ limit
       → run limit (state_as current (open_as before head (InElif first listed last) ∷ stack)) (branch_parts branches ++ EndifPart ∷ rest)
       ≡ run limit (state_as (add before (ChoiceTree head first (branches_from listed (ElifBranch last current branches)))) stack) rest
   run-later NoBranches limit before head first listed last current stack rest fits =
-      run-step limit (state_as current (open_as before head (InElif first listed last) ∷ stack)) (state_as (add before (ChoiceTree head first (branches_from (listed ++ (last, current) ∷ []) NoBranches))) stack) EndifPart rest refl
+      run-step limit (state_as current (open_as before head (InElif first listed last) ∷ stack))
+          (state_as (add before (ChoiceTree head first (branches_from (listed ++ (last, current) ∷ []) NoBranches))) stack) EndifPart rest
+          refl
       ∙ ap (λ b. run limit (state_as (add before (ChoiceTree head first b)) stack) rest) (from-append listed last current NoBranches)
   run-later (ElifBranch line block branches) limit before head first listed last current stack rest fits =
       let inner : block_depth block + suc (length stack) ≤ limit = omega arith in
@@ -182,12 +199,15 @@ mutual
       ∙ run-step limit held (state_as EmptyBlock opened) (ElifPart line) _ refl
       ∙ run-block block limit (state_as EmptyBlock opened) (branch_parts branches ++ EndifPart ∷ rest) inner
       ∙ run-later branches limit before head first all line block stack rest later
-      ∙ ap (λ b. run limit (state_as (add before (ChoiceTree head first b)) stack) rest) (from-append listed last current (ElifBranch line block branches))
+      ∙ ap (λ b. run limit (state_as (add before (ChoiceTree head first b)) stack) rest)
+          (from-append listed last current (ElifBranch line block branches))
   run-later (ElseBranch block) limit before head first listed last current stack rest fits =
       let all = listed ++ (last, current) ∷ [] in
       let held = state_as current (open_as before head (InElif first listed last) ∷ stack) in
       let opened = open_as before head (InElse first all) ∷ stack in
       run-step limit held (state_as EmptyBlock opened) ElsePart _ refl
       ∙ run-block block limit (state_as EmptyBlock opened) (EndifPart ∷ rest) fits
-      ∙ run-step limit (state_as block opened) (state_as (add before (ChoiceTree head first (branches_from all (ElseBranch block)))) stack) EndifPart rest refl
-      ∙ ap (λ b. run limit (state_as (add before (ChoiceTree head first b)) stack) rest) (from-append listed last current (ElseBranch block))
+      ∙ run-step limit (state_as block opened) (state_as (add before (ChoiceTree head first (branches_from all (ElseBranch block)))) stack)
+          EndifPart rest refl
+      ∙ ap (λ b. run limit (state_as (add before (ChoiceTree head first b)) stack) rest)
+          (from-append listed last current (ElseBranch block))

@@ -1,12 +1,14 @@
 -- The reading in one pass is a reading, and there is no other.
-use Rattle.std.proofs.Common.{◌≡◌, ◌+◌, ◌≤◌, inl, inr, ℕ, List, [], ◌∷◌, ◌++◌, Option, Some, None, Result, Ok, Err, refl, sym, ap, subst, ◌∙◌, append_assoc, append-nil, arith}
+use Rattle.std.proofs.Common.{◌≡◌, ◌+◌, ◌≤◌, inl, inr, ℕ, List, [], ◌∷◌, ◌++◌, Option, Some, None, Result, Ok, Err, refl, sym, ap, subst}
+use Rattle.std.proofs.Common.{◌∙◌, append_assoc, append-nil, arith}
 use Rattle.std.specs.Option.{option_and_then}
 use Rattle.std.proofs.lemmas.Option.{option_and_then_some}
 use Rattle.mk_text.specs.Lines.{LogicalLine}
 use Rattle.mk_ast.specs.Parts.{Part, IfPart, EndifPart, ForPart, EndforPart, part_of}
 use Rattle.mk_ast.specs.Trees.{Tree, Block, tree_parts, block_parts, block_depth, IsReadAs}
 use Rattle.mk_ast.specs.Reader.{parts_of, CanGoOn, IsUnclosed, Reads}
-use Rattle.mk_ast.specs.Blocks.{add, Stage, InIf, InElif, InElse, InFor, Open, ReadingState, Ends, part_effect, apply_effect, go_on, step, go_on_from, read_on, whole_block, whole_reading, start_state, blocks_of}
+use Rattle.mk_ast.specs.Blocks.{add, Stage, InIf, InElif, InElse, InFor, Open, ReadingState, Ends, part_effect, apply_effect, go_on, step}
+use Rattle.mk_ast.specs.Blocks.{go_on_from, read_on, whole_block, whole_reading, start_state, blocks_of}
 use Rattle.mk_ast.proofs.StateParts.{stage_parts, stack_parts, parts-part_effect, EffectParts}
 use Rattle.mk_ast.proofs.KeptLines.{kept, kept-of}
 use Rattle.mk_ast.proofs.PartRuns.{run, run-nil, run-cons, run-step, run-append, IsStateAfter, IfStateAfter, state-run, state_as, run-block}
@@ -16,18 +18,21 @@ starts : (limit : ℕ) → IsStateAfter limit [] start_state
 starts limit = record { made_of = refl; within = record { current = omega arith; below = tt } }
 
 -- what is held after some parts is theirs
-pub state-of : (limit : ℕ) (parts : List Part) (held : ReadingState) → run limit start_state parts ≡ Some held → IsStateAfter limit parts held
+pub state-of : (limit : ℕ) (parts : List Part) (held : ReadingState) → run limit start_state parts ≡ Some held
+    → IsStateAfter limit parts held
 state-of limit parts held is = subst (IfStateAfter limit parts) is (state-run limit parts [] start_state (starts limit))
 
 -- where no block is open, that is a block
-pub whole : (limit : ℕ) (parts : List Part) (block : Block) → run limit start_state parts ≡ Some (state_as block []) → IsReadAs limit parts block
+pub whole : (limit : ℕ) (parts : List Part) (block : Block) → run limit start_state parts ≡ Some (state_as block [])
+    → IsReadAs limit parts block
 whole limit parts block is =
     let has = state-of limit parts (state_as block []) is in
     let depth = has.within.current in
     record { in_order = has.made_of; not_deep = omega arith }
 
 -- and a block's parts leave that block
-pub read-run : (limit : ℕ) (parts : List Part) (block : Block) → IsReadAs limit parts block → run limit start_state parts ≡ Some (state_as block [])
+pub read-run : (limit : ℕ) (parts : List Part) (block : Block) → IsReadAs limit parts block
+    → run limit start_state parts ≡ Some (state_as block [])
 read-run limit parts block is =
     let fits : block_depth block + 0 ≤ limit = omega (arith, is.not_deep) in
     ap (run limit start_state) (sym is.in_order ∙ sym (append-nil (block_parts block)))
@@ -36,7 +41,8 @@ read-run limit parts block is =
 -- parts that begin some makefile can all be read
 pub goes : (limit : ℕ) (parts : List Part) → CanGoOn limit parts → (held : ReadingState) × (run limit start_state parts ≡ Some held)
 goes limit parts can =
-    option_and_then_some {P = (held : ReadingState) × (run limit start_state parts ≡ Some held)} (λ n. run limit n can.0) (run limit start_state parts) (state_as can.1 [])
+    option_and_then_some {P = (held : ReadingState) × (run limit start_state parts ≡ Some held)} (λ n. run limit n can.0)
+        (run limit start_state parts) (state_as can.1 [])
     (sym (run-append limit parts can.0 start_state) ∙ read-run limit (parts ++ can.0) can.1 can.2)
     (λ held is after. (held, is))
 
@@ -53,7 +59,8 @@ closes head (InElif first later last) block = (_, refl)
 closes head (InElse first later) block = (_, refl)
 closes head InFor block = (_, refl)
 
-step-closer : (limit : ℕ) (stage : Stage) (block : Block) (stack : List Open) → step limit (state_as block stack) (closer stage) ≡ go_on stack block (closer stage)
+step-closer : (limit : ℕ) (stage : Stage) (block : Block) (stack : List Open) → step limit (state_as block stack) (closer stage) ≡ go_on
+    stack block (closer stage)
 unfolding step
 step-closer limit InIf block stack = refl
 step-closer limit (InElif first later last) block stack = refl
@@ -66,7 +73,8 @@ closers [] = []
 closers (innermost ∷ stack) = closer innermost.stage ∷ closers stack
 
 -- all open blocks can be closed
-run-closers : (limit : ℕ) (stack : List Open) (block : Block) → (end : Block) × (run limit (state_as block stack) (closers stack) ≡ Some (state_as end []))
+run-closers : (limit : ℕ) (stack : List Open) (block : Block) → (end : Block)
+    × (run limit (state_as block stack) (closers stack) ≡ Some (state_as end []))
 run-closers limit [] block = (block, run-nil limit (state_as block []))
 run-closers limit (innermost ∷ stack) block =
     let one = closes innermost.head innermost.stage block in
@@ -85,7 +93,8 @@ can-go-on limit parts held is =
       closers held.stack,
       end.0,
       whole limit (parts ++ closers held.stack) end.0
-          (run-append limit parts (closers held.stack) start_state ∙ ap (option_and_then (λ n. run limit n (closers held.stack))) is ∙ end.1),
+          (run-append limit parts (closers held.stack) start_state ∙ ap (option_and_then (λ n. run limit n (closers held.stack))) is
+              ∙ end.1),
     )
 
 -- one part more
@@ -109,7 +118,8 @@ abbrev pub ReadSays : ℕ → ReadingState → List LogicalLine → Result Readi
 ReadSays limit from lines (Ok held) = run limit from (parts_of lines) ≡ Some held
 ReadSays limit from lines (Err number) = Stops limit from lines number
 
-says-after : (limit : ℕ) (from next : ReadingState) (line : LogicalLine) (lines : List LogicalLine) (result : Result ReadingState ℕ) → step limit from (part_of line) ≡ Some next
+says-after : (limit : ℕ) (from next : ReadingState) (line : LogicalLine) (lines : List LogicalLine) (result : Result ReadingState ℕ)
+    → step limit from (part_of line) ≡ Some next
     → ReadSays limit next lines result → ReadSays limit from (line ∷ lines) result
 says-after limit from next line lines (Ok held) is says = run-step limit from next (part_of line) (parts_of lines) is ∙ says
 says-after limit from next line lines (Err number) is says = record {
@@ -123,10 +133,12 @@ says-after limit from next line lines (Err number) is says = record {
   wrong = says.wrong;
 }
 
-says-on : (limit : ℕ) (from : ReadingState) (line : LogicalLine) (lines : List LogicalLine) (first : Option ReadingState) → step limit from (part_of line) ≡ first
+says-on : (limit : ℕ) (from : ReadingState) (line : LogicalLine) (lines : List LogicalLine) (first : Option ReadingState)
+    → step limit from (part_of line) ≡ first
     → ((next : ReadingState) → ReadSays limit next lines (read_on limit next lines))
     → ReadSays limit from (line ∷ lines) (go_on_from (λ next. read_on limit next lines) line.line first)
-says-on limit from line lines None is each = record { front = []; line = line; rest = lines; cut = refl; number_is = refl; held = from; reads = run-nil limit from; wrong = is }
+says-on limit from line lines None is each = record { front = []; line = line; rest = lines; cut = refl; number_is = refl; held =
+    from; reads = run-nil limit from; wrong = is }
 says-on limit from line lines (Some next) is each = says-after limit from next line lines (read_on limit next lines) is (each next)
 
 pub read-says : (limit : ℕ) (lines : List LogicalLine) (from : ReadingState) → ReadSays limit from lines (read_on limit from lines)
@@ -164,12 +176,15 @@ record IsCutAt (lines : List LogicalLine) (front : List Part) (part : Part) (bac
   pub line_part : part_of line ≡ part
   pub rest_parts : parts_of rest ≡ back
 
-cut-next : (lines first second : List LogicalLine) (front : List Part) (part : Part) (back : List Part) → lines ≡ first ++ second → parts_of second ≡ part ∷ back
+cut-next : (lines first second : List LogicalLine) (front : List Part) (part : Part) (back : List Part) → lines ≡ first ++ second
+    → parts_of second ≡ part ∷ back
     → IsCutAt lines front part back
 cut-next lines first [] front part back whole' is = absurd (let no : [] ≡ part ∷ back = is in cc)
-cut-next lines first (line ∷ rest) front part back whole' is = record { first = first; line = line; rest = rest; whole = whole'; line_part = cc; rest_parts = cc }
+cut-next lines first (line ∷ rest) front part back whole' is = record { first = first; line = line; rest = rest; whole =
+    whole'; line_part = cc; rest_parts = cc }
 
-cut-at : (front : List Part) (part : Part) (back : List Part) (lines : List LogicalLine) → parts_of lines ≡ front ++ part ∷ back → IsCutAt lines front part back
+cut-at : (front : List Part) (part : Part) (back : List Part) (lines : List LogicalLine) → parts_of lines ≡ front ++ part ∷ back
+    → IsCutAt lines front part back
 cut-at front part back lines is =
     let both = cut-parts front (part ∷ back) lines is in
     cut-next lines both.first both.second front part back both.whole both.second_parts
@@ -202,9 +217,11 @@ unclosed limit lines block innermost stack is =
     let same : innermost.head ≡ at.line = sym (starts'.keeps at.line) ∙ ap (kept at.line) (sym at.line_part) ∙ kept-of at.line in
     let one = closes innermost.head innermost.stage block in
     let parts : tree_parts one.0 ≡ stage ++ block_parts block ++ closer innermost.stage ∷ [] =
-    subst (EffectParts innermost.head innermost.stage block (closer innermost.stage)) one.1 (parts-part_effect innermost.head innermost.stage block (closer innermost.stage)) in
+    subst (EffectParts innermost.head innermost.stage block (closer innermost.stage)) one.1
+        (parts-part_effect innermost.head innermost.stage block (closer innermost.stage)) in
     let these : parts_of (at.line ∷ at.rest) ≡ stage ++ block_parts block =
-    ap (λ p. p ∷ parts_of at.rest) at.line_part ∙ ap (λ l. starts'.first ∷ l) at.rest_parts ∙ ap (λ l. l ++ block_parts block) (sym starts'.parts) in
+    ap (λ p. p ∷ parts_of at.rest) at.line_part ∙ ap (λ l. starts'.first ∷ l) at.rest_parts
+        ∙ ap (λ l. l ++ block_parts block) (sym starts'.parts) in
     record {
       front = at.first;
       line = at.line;
@@ -225,7 +242,8 @@ reads-closed limit lines block (innermost ∷ stack) is = inr (unclosed limit li
 some-none : {A : Type 0} (x : A) → Some x ≡ None → ⊥
 some-none x is = cc
 
-reads-finished : (limit : ℕ) (lines : List LogicalLine) (result : Result ReadingState ℕ) → ReadSays limit start_state lines result → Reads limit lines (whole_reading result)
+reads-finished : (limit : ℕ) (lines : List LogicalLine) (result : Result ReadingState ℕ) → ReadSays limit start_state lines result
+    → Reads limit lines (whole_reading result)
 reads-finished limit lines (Ok held) says = reads-closed limit lines held.current held.stack says
 reads-finished limit lines (Err number) says = inl (record {
   front = says.front;
@@ -236,7 +254,8 @@ reads-finished limit lines (Err number) says = inl (record {
   goes_on = can-go-on limit (parts_of says.front) says.held says.reads;
   wrong = λ can.
       let all = goes limit (parts_of says.front ++ part_of says.line ∷ []) can in
-      some-none all.0 (sym all.1 ∙ run-more limit (parts_of says.front) (part_of says.line) says.held says.reads ∙ ap (option_and_then (λ n. run limit n [])) says.wrong);
+      some-none all.0 (sym all.1 ∙ run-more limit (parts_of says.front) (part_of says.line) says.held says.reads
+          ∙ ap (option_and_then (λ n. run limit n [])) says.wrong);
 })
 
 pub blocks-read : (limit : ℕ) (lines : List LogicalLine) → Reads limit lines (blocks_of limit lines)

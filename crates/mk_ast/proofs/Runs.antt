@@ -1,5 +1,6 @@
 -- The run of passing bytes that a text begins with.
-use Rattle.std.proofs.Common.{◌≡◌, ◌&&◌, nat_le, true≢false, ℕ, zero, suc, ◌+◌, ◌<◌, ◌≤◌, ⊎_elim, add-one, Bool, true, false, List, [], ◌∷◌, length, get_or, IsUtf8, IsCharBoundary, sym, subst, arith}
+use Rattle.std.proofs.Common.{◌≡◌, ◌&&◌, nat_le, true≢false, ℕ, zero, suc, ◌+◌, ◌<◌, ◌≤◌, ⊎_elim, add-one, Bool, true, false, List, [], ◌∷◌}
+use Rattle.std.proofs.Common.{length, get_or, IsUtf8, IsCharBoundary, sym, subst, arith}
 use Rattle.std.proofs.lemmas.Bool.{cond-true, cond-false, cases_Bool, or_cases, leb-true}
 use Rattle.std.proofs.lemmas.Str.{IsCharBoundary-start, IsCharBoundary-after_ascii}
 use Rattle.std.specs.Char.{is_ascii_alphabetic}
@@ -40,7 +41,8 @@ boundary_by : (text : List ℕ) (end : ℕ) → IsUtf8 text → end ≤ prefix_l
 boundary_by text zero utf8 near = IsCharBoundary-start text utf8
 boundary_by text (suc at) utf8 near =
     subst (IsCharBoundary text) (add-one at)
-    (IsCharBoundary-after_ascii text at utf8 (omega (arith, near, run-within is_ascii_alphabetic text)) (letter_ascii (get_or text at 0) (run-last is_ascii_alphabetic text at (omega (arith, near)))))
+    (IsCharBoundary-after_ascii text at utf8 (omega (arith, near, run-within is_ascii_alphabetic text))
+        (letter_ascii (get_or text at 0) (run-last is_ascii_alphabetic text at (omega (arith, near)))))
 
 -- a text may be cut after the letters that it begins with
 pub letters-boundary : (text : List ℕ) (end : ℕ) → IsUtf8 text → end ≡ prefix_len is_ascii_alphabetic text → IsCharBoundary text end

@@ -1,10 +1,12 @@
 -- What is held after some parts isn't deeper than the limit.
-use Rattle.std.proofs.Common.{◌≡◌, ◌+◌, ◌<◌, ◌≤◌, ℕ, suc, max, refl, Bool, true, false, nat_lt, cond, List, [], ◌∷◌, ◌++◌, length, Option, Some, None, arith}
+use Rattle.std.proofs.Common.{◌≡◌, ◌+◌, ◌<◌, ◌≤◌, ℕ, suc, max, refl, Bool, true, false, nat_lt, cond, List, [], ◌∷◌, ◌++◌, length, Option}
+use Rattle.std.proofs.Common.{Some, None, arith}
 use Rattle.std.proofs.lemmas.Bool.{ltb-true}
 use Rattle.mk_text.specs.Lines.{LogicalLine}
 use Rattle.mk_ast.specs.Parts.{Part, IfPart, ElifPart, ElsePart, EndifPart, ForPart, EndforPart, PlainPart}
 use Rattle.mk_ast.specs.Trees.{LineTree, Block, EmptyBlock, NoBranches, ElseBranch, tree_depth, block_depth}
-use Rattle.mk_ast.specs.Blocks.{Stage, InIf, InElif, InElse, InFor, Open, ReadingState, PartEffect, GoesOn, Ends, Wrong, part_effect, apply_effect, go_on, begin, step}
+use Rattle.mk_ast.specs.Blocks.{Stage, InIf, InElif, InElse, InFor, Open, ReadingState, PartEffect, GoesOn, Ends, Wrong, part_effect}
+use Rattle.mk_ast.specs.Blocks.{apply_effect, go_on, begin, step}
 use Rattle.mk_ast.proofs.BlockParts.{depth-add, listed_depth, depth-listed, depth-from}
 use Rattle.mk_ast.proofs.Effects.{of-effect}
 
@@ -30,14 +32,16 @@ EffectFits stage block (GoesOn next) = stage_depth next ≤ max (stage_depth sta
 EffectFits stage block (Ends tree) = tree_depth tree ≤ suc (max (stage_depth stage) (block_depth block))
 EffectFits stage block Wrong = Unit {0}
 
-depth-part_effect : (head : LogicalLine) (stage : Stage) (block : Block) (part : Part) → EffectFits stage block (part_effect head stage block part)
+depth-part_effect : (head : LogicalLine) (stage : Stage) (block : Block) (part : Part)
+    → EffectFits stage block (part_effect head stage block part)
 depth-part_effect = of-effect (λ head stage block part. EffectFits stage block) (record {
   if_elif = λ head block line. omega arith;
   if_else = λ head block. omega arith;
   if_endif = λ head block. omega arith;
   elif_elif = λ head first later last block line. omega (arith, depth-listed later last block);
   elif_else = λ head first later last block. omega (arith, depth-listed later last block);
-  elif_endif = λ head first later last block. omega (arith, depth-listed later last block, depth-from (later ++ (last, block) ∷ []) NoBranches);
+  elif_endif = λ head first later last block. omega (arith, depth-listed later last block, depth-from
+      (later ++ (last, block) ∷ []) NoBranches);
   else_endif = λ head first later block. omega (arith, depth-from later (ElseBranch block));
   for_endfor = λ head block. omega arith;
   wrong = λ head stage block part. tt;
@@ -57,16 +61,19 @@ within-apply_effect limit innermost stack block (Ends tree) current below fits =
     record { current = omega (arith, below.0, below.1, depth-add innermost.before tree); below = below.2 }
 within-apply_effect limit innermost stack block Wrong current below fits = tt
 
-within-go_on : (limit : ℕ) (stack : List Open) (block : Block) (part : Part) → block_depth block + length stack ≤ limit → StackFits limit stack
+within-go_on : (limit : ℕ) (stack : List Open) (block : Block) (part : Part) → block_depth block + length stack ≤
+    limit → StackFits limit stack
     → IfWithin limit (go_on stack block part)
 within-go_on limit [] block part current below = tt
 within-go_on limit (innermost ∷ stack) block part current below =
-    within-apply_effect limit innermost stack block (part_effect innermost.head innermost.stage block part) current below (depth-part_effect innermost.head innermost.stage block part)
+    within-apply_effect limit innermost stack block (part_effect innermost.head innermost.stage block part) current below
+        (depth-part_effect innermost.head innermost.stage block part)
 
 within-begin : (limit : ℕ) (held : ReadingState) (line : LogicalLine) (stage : Stage) → IsWithin limit held → stage_depth stage ≡ 0
     → IfWithin limit (begin limit held line stage)
 within-begin limit held line stage is none =
-    let next : ReadingState = record { current = EmptyBlock; stack = record { before = held.current; head = line; stage = stage } ∷ held.stack } in
+    let next : ReadingState =
+        record { current = EmptyBlock; stack = record { before = held.current; head = line; stage = stage } ∷ held.stack } in
     let cases : (b : Bool) → nat_lt (length held.stack) limit ≡ b → IfWithin limit (cond b (Some next) None) =
     λ b. elim b as (λ b. nat_lt (length held.stack) limit ≡ b → IfWithin limit (cond b (Some next) None)) [
       | true ↦ λ room.

@@ -1,9 +1,11 @@
 -- What is held after some parts is made of just these parts, and isn't too deep.
-use Rattle.std.proofs.Common.{◌≡◌, ℕ, true, false, nat_lt, cond, List, [], ◌∷◌, ◌++◌, length, Option, Some, None, refl, ap, ◌∙◌, append_assoc, append-nil}
+use Rattle.std.proofs.Common.{◌≡◌, ℕ, true, false, nat_lt, cond, List, [], ◌∷◌, ◌++◌, length, Option, Some, None, refl, ap, ◌∙◌}
+use Rattle.std.proofs.Common.{append_assoc, append-nil}
 use Rattle.mk_text.specs.Lines.{LogicalLine}
 use Rattle.mk_ast.specs.Parts.{Part, IfPart, ElifPart, ElsePart, EndifPart, ForPart, EndforPart, PlainPart}
 use Rattle.mk_ast.specs.Trees.{Block, EmptyBlock, NoBranches, ElseBranch, tree_parts, block_parts}
-use Rattle.mk_ast.specs.Blocks.{Stage, InIf, InElif, InElse, InFor, Open, ReadingState, PartEffect, GoesOn, Ends, Wrong, part_effect, apply_effect, go_on, begin, step}
+use Rattle.mk_ast.specs.Blocks.{Stage, InIf, InElif, InElse, InFor, Open, ReadingState, PartEffect, GoesOn, Ends, Wrong, part_effect}
+use Rattle.mk_ast.specs.Blocks.{apply_effect, go_on, begin, step}
 use Rattle.mk_ast.proofs.BlockParts.{parts-add, listed_parts, parts-listed, parts-from}
 use Rattle.mk_ast.proofs.Effects.{of-effect}
 
@@ -32,18 +34,23 @@ more-listed : (front later block end listed : List Part) (last : Part) → liste
     → (front ++ listed) ++ end ≡ (((front ++ later) ++ last ∷ []) ++ block) ++ end
 more-listed front later block end listed last is = ap (λ l. (front ++ l) ++ end) is ∙ simp append_assoc
 
-pub parts-part_effect : (head : LogicalLine) (stage : Stage) (block : Block) (part : Part) → EffectParts head stage block part (part_effect head stage block part)
+pub parts-part_effect : (head : LogicalLine) (stage : Stage) (block : Block) (part : Part)
+    → EffectParts head stage block part (part_effect head stage block part)
 parts-part_effect = of-effect EffectParts (record {
   if_elif = λ head block line. simp append_assoc;
   if_else = λ head block. simp append_assoc;
   if_endif = λ head block. simp append_assoc;
-  elif_elif = λ head first later last block line. more-listed (IfPart head ∷ block_parts first) (listed_parts later) (block_parts block) (ElifPart line ∷ []) _ (ElifPart last) (parts-listed later last block);
-  elif_else = λ head first later last block. more-listed (IfPart head ∷ block_parts first) (listed_parts later) (block_parts block) (ElsePart ∷ []) _ (ElifPart last) (parts-listed later last block);
+  elif_elif = λ head first later last block line. more-listed (IfPart head ∷ block_parts first) (listed_parts later) (block_parts block)
+      (ElifPart line ∷ []) _ (ElifPart last) (parts-listed later last block);
+  elif_else = λ head first later last block. more-listed (IfPart head ∷ block_parts first) (listed_parts later) (block_parts block)
+      (ElsePart ∷ []) _ (ElifPart last) (parts-listed later last block);
   elif_endif = λ head first later last block.
       more-listed (IfPart head ∷ block_parts first) (listed_parts later) (block_parts block) (EndifPart ∷ []) _ (ElifPart last)
-      (parts-from (later ++ (last, block) ∷ []) NoBranches ∙ append-nil (listed_parts (later ++ (last, block) ∷ [])) ∙ parts-listed later last block);
+      (parts-from (later ++ (last, block) ∷ []) NoBranches ∙ append-nil (listed_parts (later ++ (last, block) ∷ []))
+          ∙ parts-listed later last block);
   else_endif = λ head first later block.
-      more-listed (IfPart head ∷ block_parts first) (listed_parts later) (block_parts block) (EndifPart ∷ []) _ ElsePart (parts-from later (ElseBranch block));
+      more-listed (IfPart head ∷ block_parts first) (listed_parts later) (block_parts block) (EndifPart ∷ []) _ ElsePart
+          (parts-from later (ElseBranch block));
   for_endfor = λ head block. refl;
   wrong = λ head stage block part. tt;
 })
@@ -53,21 +60,26 @@ abbrev pub StepParts : List Part → Part → Option ReadingState → Type 0
 StepParts parts part None = Unit {0}
 StepParts parts part (Some held) = state_parts held ≡ parts ++ part ∷ []
 
-parts-apply_effect : (innermost : Open) (stack : List Open) (block : Block) (part : Part) (result : PartEffect) → EffectParts innermost.head innermost.stage block part result
+parts-apply_effect : (innermost : Open) (stack : List Open) (block : Block) (part : Part) (result : PartEffect)
+    → EffectParts innermost.head innermost.stage block part result
     → StepParts (stack_parts (innermost ∷ stack) ++ block_parts block) part (apply_effect innermost stack result)
 parts-apply_effect innermost stack block part (GoesOn next) is = simp (append-nil, is, append_assoc)
 parts-apply_effect innermost stack block part (Ends tree) is = simp (parts-add, is, append_assoc)
 parts-apply_effect innermost stack block part Wrong is = tt
 
-parts-go_on : (stack : List Open) (block : Block) (part : Part) → StepParts (stack_parts stack ++ block_parts block) part (go_on stack block part)
+parts-go_on : (stack : List Open) (block : Block) (part : Part) → StepParts (stack_parts stack ++ block_parts block) part
+    (go_on stack block part)
 parts-go_on [] block part = tt
 parts-go_on (innermost ∷ stack) block part =
-    parts-apply_effect innermost stack block part (part_effect innermost.head innermost.stage block part) (parts-part_effect innermost.head innermost.stage block part)
+    parts-apply_effect innermost stack block part (part_effect innermost.head innermost.stage block part)
+        (parts-part_effect innermost.head innermost.stage block part)
 
 parts-begin : (limit : ℕ) (held : ReadingState) (line : LogicalLine) (stage : Stage) (part : Part) → stage_parts line stage ≡ part ∷ []
     → StepParts (state_parts held) part (begin limit held line stage)
 parts-begin limit held line stage part is =
-    elim (nat_lt (length held.stack) limit) as (λ b. StepParts (state_parts held) part (cond b (Some (record { current = EmptyBlock; stack = record { before = held.current; head = line; stage = stage } ∷ held.stack })) None)) [
+    elim (nat_lt (length held.stack) limit) as (λ b. StepParts (state_parts held) part
+        (cond b (Some (record { current = EmptyBlock; stack = record { before = held.current; head = line; stage = stage } ∷ held.stack }))
+        None)) [
       | true ↦
           simp (append-nil, is, append_assoc)
       | false ↦ tt

@@ -32,6 +32,7 @@ module _ (law : OutsideKeepsPlaces) (text : List ℕ) (utf8 : IsUtf8 text) where
   pub places-in : (tree : OrTree) → IsConditionOf text tree → All (IsTokenIn text) (or_tokens tree)
   places-in tree condition =
       let edged : IfSome (tokens_of (outside text)) (All (Edged (outside text))) =
-      subst (λ o. IfSome o (All (Edged (outside text)))) (walk-tokens (outside text)) (walk-edged (outside text) 0 0 (outside text) refl (AtStart (omega arith))) in
+      subst (λ o. IfSome o (All (Edged (outside text)))) (walk-tokens (outside text))
+          (walk-edged (outside text) 0 0 (outside text) refl (AtStart (omega arith))) in
       let all : All (Edged (outside text)) condition.tokens = subst (λ o. IfSome o (All (Edged (outside text)))) condition.cut edged in
       subst (All (IsTokenIn text)) (sym condition.read.in_order) (tokens_in condition.tokens all)

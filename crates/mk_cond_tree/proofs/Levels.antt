@@ -22,10 +22,12 @@ negation-zero levels tokens is = sym (ap (λ n. negation_below n tokens) is ∙ 
 pub group-zero : (levels : ℕ) (tokens : List Token) → levels ≡ 0 → None ≡ group_below levels tokens
 group-zero levels tokens is = sym (ap (λ n. group_below n tokens) is ∙ ap (λ (r : Reader NotTree). group (or_by r tokens)) inside_zero)
 
-pub negation-below : (levels : ℕ) (tokens : List Token) (read : Option (NotTree × List Token)) → (levels ≡ 0 → ⊥) → read ≡ read_not (levels - 1) tokens
+pub negation-below : (levels : ℕ) (tokens : List Token) (read : Option (NotTree × List Token)) → (levels ≡ 0 → ⊥)
+    → read ≡ read_not (levels - 1) tokens
     → negate read ≡ negation_below levels tokens
 negation-below levels tokens read some is = ap negate (is ∙ ap (λ (r : Reader NotTree). r tokens) (sym (below levels some)))
 
-pub group-below : (levels : ℕ) (tokens : List Token) (read : Option (OrTree × List Token)) → (levels ≡ 0 → ⊥) → read ≡ read_or (levels - 1) tokens
+pub group-below : (levels : ℕ) (tokens : List Token) (read : Option (OrTree × List Token)) → (levels ≡ 0 → ⊥)
+    → read ≡ read_or (levels - 1) tokens
     → group read ≡ group_below levels tokens
 group-below levels tokens read some is = ap group (is ∙ ap (λ (r : Reader NotTree). or_by r tokens) (sym (below levels some)))

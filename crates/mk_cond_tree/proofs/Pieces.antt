@@ -1,5 +1,7 @@
 -- The tokens that the code finds by places are those of the pieces of the text.
-use Rattle.std.proofs.Common.{◌≡◌, inl, inr, ◌<◌, ◌==◌, ℕ, zero, suc, ◌+◌, ◌-◌, Bool, true, false, not, List, [], ◌∷◌, ◌++◌, length, take, drop, Option, Some, None, option_map, cond, refl, sym, ap, subst, ◌∙◌, arith, drop-drop, append_assoc, length-append, length-drop}
+use Rattle.std.proofs.Common.{◌≡◌, inl, inr, ◌<◌, ◌==◌, ℕ, zero, suc, ◌+◌, ◌-◌, Bool, true, false, not, List, [], ◌∷◌, ◌++◌, length, take}
+use Rattle.std.proofs.Common.{drop, Option, Some, None, option_map, cond, refl, sym, ap, subst, ◌∙◌, arith, drop-drop, append_assoc}
+use Rattle.std.proofs.Common.{length-append, length-drop}
 use Rattle.std.proofs.lemmas.Bool.Decides.{eqb_tells}
 use Rattle.std.proofs.Math.Seq.{take-append_seam, drop-append_seam}
 use Rattle.std.specs.Option.{option_or}
@@ -8,8 +10,11 @@ use Rattle.mk_cond_tree.specs.declared.tokens.Call.{Call}
 use Rattle.mk_cond_tree.specs.declared.tokens.Side.TheVariants.{Bare}
 use Rattle.mk_cond_tree.specs.declared.tokens.Token.{Token}
 use Rattle.mk_cond_tree.specs.declared.tokens.Token.TheVariants as t
-use Rattle.mk_cond_tree.specs.Tokens.{Piece, spelling, blank_piece, sign_piece, word_piece, call_piece, begins_with, is_stop, cut_before, quoted_up_to, call_of, before_closing, call_or_word, word_or_call, first_piece, piece_before, pieces_by, place_inside, tokens_at, tokens_of}
-use Rattle.mk_cond_tree.specs.Scanner.{begins, place_of_first, first_or_end, closing_place, quoted_side, call_token, blanks_end, word_token, word_at, sign_of_two_or_one, sign_of_two, token_at, token_before, walk}
+use Rattle.mk_cond_tree.specs.Tokens.{Piece, spelling, blank_piece, sign_piece, word_piece, call_piece, begins_with, is_stop, cut_before}
+use Rattle.mk_cond_tree.specs.Tokens.{quoted_up_to, call_of, before_closing, call_or_word, word_or_call, first_piece, piece_before}
+use Rattle.mk_cond_tree.specs.Tokens.{pieces_by, place_inside, tokens_at, tokens_of}
+use Rattle.mk_cond_tree.specs.Scanner.{begins, place_of_first, first_or_end, closing_place, quoted_side, call_token, blanks_end, word_token}
+use Rattle.mk_cond_tree.specs.Scanner.{word_at, sign_of_two_or_one, sign_of_two, token_at, token_before, walk}
 use Rattle.mk_cond_tree.proofs.Scans.{walk_passes}
 
 -- a token at a place, with the place after it, is that of a piece there
@@ -32,7 +37,8 @@ cut_end : (p : ℕ → Bool) (at : ℕ) (text : List ℕ) → first_or_end p at 
 cut_end p at [] = omega arith
 cut_end p at (b ∷ rest) =
     let parts : Bool → List ℕ × List ℕ = λ v. cond v ([], b ∷ rest) (b ∷ (cut_before p rest).0, (cut_before p rest).1) in
-    elim (p b) as (λ v. cond v at (first_or_end p (at + 1) rest) ≡ at + length (parts v).0) [ true ↦ omega arith | false ↦ omega (arith, cut_end p (at + 1) rest) ]
+    elim (p b) as (λ v. cond v at (first_or_end p (at + 1) rest) ≡ at + length (parts v).0)
+        [ true ↦ omega arith | false ↦ omega (arith, cut_end p (at + 1) rest) ]
 
 -- the place of a cut, if something comes after it
 abbrev place_of_cut : ℕ → List ℕ → List ℕ → Option ℕ
@@ -53,7 +59,8 @@ cut_place p at (b ∷ rest) =
     ]
 
 -- the parenthesis that closes an earlier one
-one_longer : (at b : ℕ) (more : Option (List ℕ)) → option_map (λ a. at + 1 + length a) more ≡ option_map (λ a. at + length a) (option_map (λ a. b ∷ a) more)
+one_longer : (at b : ℕ) (more : Option (List ℕ)) → option_map (λ a. at + 1 + length a) more ≡ option_map (λ a. at + length a)
+    (option_map (λ a. b ∷ a) more)
 one_longer at b None = refl
 one_longer at b (Some a) = ap Some (omega arith)
 
@@ -71,23 +78,27 @@ closing_at at depth (b ∷ rest) =
       ])
     ]
 
-same_quoted : (at : ℕ) (front rest : List ℕ) → SamePiece at (quoted_side (at + 1) (place_of_cut (at + 1) front rest)) (quoted_up_to front rest)
+same_quoted : (at : ℕ) (front rest : List ℕ) → SamePiece at (quoted_side (at + 1) (place_of_cut (at + 1) front rest))
+    (quoted_up_to front rest)
 same_quoted at front [] = tt
 same_quoted at front (b ∷ rest) = (refl, omega (arith, length-append front (34 ∷ [])), omega arith)
 
 -- a sign of two bytes, or of one; `other` isn't looked at
 same_sign : (at first second : ℕ) (two one : Token) (other : Option Piece) (rest : List ℕ)
     → SamePiece at (sign_of_two_or_one at (begins second rest) two one)
-    (option_or (cond (begins_with (second ∷ []) rest) (Some (sign_piece (first ∷ second ∷ []) two)) (Some (sign_piece (first ∷ []) one))) other)
+    (option_or (cond (begins_with (second ∷ []) rest) (Some (sign_piece (first ∷ second ∷ []) two)) (Some (sign_piece (first ∷ []) one)))
+        other)
 same_sign at first second two one other [] = (refl, refl, omega arith)
 same_sign at first second two one other (c ∷ rest) =
     elim (eqb_tells c second) [ inl is ↦ rw is.0 (refl, refl, omega arith) | inr other ↦ rw other.0 (refl, refl, omega arith) ]
 
 -- a sign that has two bytes
 same_pair : (at first second : ℕ) (two : Token) (rest : List ℕ)
-    → SamePiece at (sign_of_two at (begins second rest) two) (option_or (cond (begins_with (second ∷ []) rest) (Some (sign_piece (first ∷ second ∷ []) two)) None) None)
+    → SamePiece at (sign_of_two at (begins second rest) two)
+        (option_or (cond (begins_with (second ∷ []) rest) (Some (sign_piece (first ∷ second ∷ []) two)) None) None)
 same_pair at first second two [] = tt
-same_pair at first second two (c ∷ rest) = elim (eqb_tells c second) [ inl is ↦ rw is.0 (refl, refl, omega arith) | inr other ↦ rw other.0 tt ]
+same_pair at first second two (c ∷ rest) = elim (eqb_tells c second)
+    [ inl is ↦ rw is.0 (refl, refl, omega arith) | inr other ↦ rw other.0 tt ]
 
 -- a word
 same_bare : (at b : ℕ) (word : List ℕ) (end : ℕ) → end ≡ at + 1 + length word
@@ -100,26 +111,32 @@ same_bare at b word end is = (
 )
 
 -- a call, if its parenthesis closes
-same_call : (at b : ℕ) (word blanks : List ℕ) (left : ℕ) (call : Call) (argument : Option (List ℕ)) → left ≡ at + 1 + length word + length blanks
-    → SamePiece at (call_token call (left + 1) (option_map (λ a. left + 1 + length a) argument)) (option_map (call_piece call (b ∷ word) blanks) argument)
+same_call : (at b : ℕ) (word blanks : List ℕ) (left : ℕ) (call : Call) (argument : Option (List ℕ))
+    → left ≡ at + 1 + length word + length blanks
+    → SamePiece at (call_token call (left + 1) (option_map (λ a. left + 1 + length a) argument))
+        (option_map (call_piece call (b ∷ word) blanks) argument)
 same_call at b word blanks left call None is = tt
 same_call at b word blanks left call (Some a) is =
     let front = word ++ blanks ++ 40 ∷ [] in
-    let before : length front ≡ length word + length blanks + 1 = omega (arith, length-append (word ++ blanks) (40 ∷ []), length-append word blanks) in
+    let before : length front ≡ length word + length blanks + 1 =
+        omega (arith, length-append (word ++ blanks) (40 ∷ []), length-append word blanks) in
     let start : at + suc (length front) ≡ left + 1 = omega (arith, before, is) in (
       ap (λ s. t.Call call (record { start = s; end = s + length a }) ∷ []) start,
       omega (arith, before, is, length-append (front ++ a) (41 ∷ []), length-append front a),
       omega arith,
     )
 
-same_called : (at b : ℕ) (word blanks behind : List ℕ) (end left : ℕ) (call : Call) → end ≡ at + 1 + length word → left ≡ at + 1 + length word + length blanks
+same_called : (at b : ℕ) (word blanks behind : List ℕ) (end left : ℕ) (call : Call) → end ≡ at + 1 + length word
+    → left ≡ at + 1 + length word + length blanks
     → SamePiece at
-    (cond (begins 40 behind) (call_token call (left + 1) (closing_place (left + 1) 0 (drop 1 behind))) (Some (t.Side (Bare (record { start = at; end = end })), end)))
+    (cond (begins 40 behind) (call_token call (left + 1) (closing_place (left + 1) 0 (drop 1 behind)))
+        (Some (t.Side (Bare (record { start = at; end = end })), end)))
     (call_or_word call (b ∷ word) blanks behind)
 same_called at b word blanks [] end left call end_is left_is = same_bare at b word end end_is
 same_called at b word blanks (c ∷ rest) end left call end_is left_is =
     elim (eqb_tells c 40) [
-      | inl is ↦ rw is.0 (subst (λ o. SamePiece at (call_token call (left + 1) o) (option_map (call_piece call (b ∷ word) blanks) (before_closing 0 rest)))
+      | inl is ↦ rw is.0 (subst (λ o. SamePiece at (call_token call (left + 1) o)
+          (option_map (call_piece call (b ∷ word) blanks) (before_closing 0 rest)))
           (sym (closing_at (left + 1) 0 rest)) (same_call at b word blanks left call (before_closing 0 rest) left_is))
       | inr other ↦ rw other.0 (same_bare at b word end end_is)
     ]
@@ -136,16 +153,21 @@ same_word at b word behind rest end (Some call) whole end_is =
     let parts : rest ≡ (word ++ blanks) ++ after =
     whole ∙ ap (λ l. word ++ l) (sym (cut_whole (λ c. not (is_blank c)) behind)) ∙ sym (append_assoc word blanks after) in
     let front : left - (at + 1) ≡ length (word ++ blanks) = omega (arith, left_is, length-append word blanks) in
-    let there : drop (left - (at + 1)) rest ≡ after = ap (λ n. drop n rest) front ∙ ap (drop (length (word ++ blanks))) parts ∙ drop-append_seam (word ++ blanks) after in
+    let there : drop (left - (at + 1)) rest ≡ after = ap (λ n. drop n rest) front ∙ ap (drop (length (word ++ blanks))) parts
+        ∙ drop-append_seam (word ++ blanks) after in
     let more : left + 1 - (at + 1) ≡ left - (at + 1) + 1 = omega (arith, left_is) in
-    let beyond : drop (left + 1 - (at + 1)) rest ≡ drop 1 after = ap (λ n. drop n rest) more ∙ sym (drop-drop 1 (left - (at + 1)) rest) ∙ ap (drop 1) there in
+    let beyond : drop (left + 1 - (at + 1)) rest ≡ drop 1 after = ap (λ n. drop n rest) more
+        ∙ sym (drop-drop 1 (left - (at + 1)) rest) ∙ ap (drop 1) there in
     let bare = Some (t.Side (Bare (record { start = at; end = end })), end) in
-    subst (λ l. SamePiece at (cond (begins 40 l) (call_token call (left + 1) (closing_place (left + 1) 0 (drop (left + 1 - (at + 1)) rest))) bare) (call_or_word call (b ∷ word) blanks after)) (sym there)
-    (subst (λ l. SamePiece at (cond (begins 40 after) (call_token call (left + 1) (closing_place (left + 1) 0 l)) bare) (call_or_word call (b ∷ word) blanks after)) (sym beyond)
+    subst (λ l. SamePiece at (cond (begins 40 l) (call_token call (left + 1) (closing_place (left + 1) 0 (drop (left + 1 - (at + 1)) rest)))
+        bare) (call_or_word call (b ∷ word) blanks after)) (sym there)
+    (subst (λ l. SamePiece at (cond (begins 40 after) (call_token call (left + 1) (closing_place (left + 1) 0 l)) bare)
+        (call_or_word call (b ∷ word) blanks after)) (sym beyond)
     (same_called at b word blanks after end left call end_is left_is))
 
 same_word_at : (at b : ℕ) (rest : List ℕ)
-    → SamePiece at (word_at at b rest) (word_or_call (b ∷ (cut_before is_stop rest).0) (cut_before is_stop rest).1 (call_of (b ∷ (cut_before is_stop rest).0)))
+    → SamePiece at (word_at at b rest) (word_or_call (b ∷ (cut_before is_stop rest).0) (cut_before is_stop rest).1
+        (call_of (b ∷ (cut_before is_stop rest).0)))
 same_word_at at b rest =
     let word = (cut_before is_stop rest).0 in
     let behind = (cut_before is_stop rest).1 in
@@ -153,8 +175,10 @@ same_word_at at b rest =
     let whole : rest ≡ word ++ behind = sym (cut_whole is_stop rest) in
     let end_is : end ≡ at + 1 + length word = cut_end is_stop (at + 1) rest in
     let size : end - (at + 1) ≡ length word = omega (arith, end_is) in
-    let taken : take (end - (at + 1)) rest ≡ word = ap (λ n. take n rest) size ∙ ap (take (length word)) whole ∙ take-append_seam word behind in
-    let dropped : drop (end - (at + 1)) rest ≡ behind = ap (λ n. drop n rest) size ∙ ap (drop (length word)) whole ∙ drop-append_seam word behind in
+    let taken : take (end - (at + 1)) rest ≡ word = ap (λ n. take n rest) size ∙ ap (take (length word)) whole
+        ∙ take-append_seam word behind in
+    let dropped : drop (end - (at + 1)) rest ≡ behind = ap (λ n. drop n rest) size ∙ ap (drop (length word)) whole
+        ∙ drop-append_seam word behind in
     let piece = word_or_call (b ∷ word) behind (call_of (b ∷ word)) in
     subst (λ l. SamePiece at (word_token at rest end (blanks_end end (drop (end - (at + 1)) rest)) (call_of (b ∷ l))) piece) (sym taken)
     (subst (λ l. SamePiece at (word_token at rest end (blanks_end end l) (call_of (b ∷ word))) piece) (sym dropped)
@@ -185,9 +209,12 @@ same-token at b rest blank =
                     | inl is ↦ subst (SameAt at rest) (sym is.1) (same_pair at 124 124 _ rest)
                     | inr no124 ↦ elim (eqb_tells b 34) [
                       | inl is ↦ subst (SameAt at rest) (sym is.1)
-                          (subst (λ o. SamePiece at (quoted_side (at + 1) o) (quoted_up_to (cut_before (λ c. c == 34) rest).0 (cut_before (λ c. c == 34) rest).1))
-                          (sym (cut_place (λ c. c == 34) (at + 1) rest)) (same_quoted at (cut_before (λ c. c == 34) rest).0 (cut_before (λ c. c == 34) rest).1))
-                      | inr no34 ↦ rw (blank, no40.0, no41.0, no33.0, no60.0, no62.0, no61.0, no38.0, no124.0, no34.0) (same_word_at at b rest)
+                          (subst (λ o. SamePiece at (quoted_side (at + 1) o)
+                              (quoted_up_to (cut_before (λ c. c == 34) rest).0 (cut_before (λ c. c == 34) rest).1))
+                          (sym (cut_place (λ c. c == 34) (at + 1) rest))
+                          (same_quoted at (cut_before (λ c. c == 34) rest).0 (cut_before (λ c. c == 34) rest).1))
+                      | inr no34 ↦ rw (blank, no40.0, no41.0, no33.0, no60.0, no62.0, no61.0, no38.0, no124.0, no34.0)
+                          (same_word_at at b rest)
                     ]
                   ]
                 ]
@@ -203,13 +230,15 @@ unfolding first_piece
 blank-first b rest is = rw is refl
 
 -- one piece before others
-put_blank : (at b : ℕ) (pieces : Option (List Piece)) → option_map (tokens_at (at + 1)) pieces ≡ option_map (tokens_at at) (option_map (λ l. blank_piece b ∷ l) pieces)
+put_blank : (at b : ℕ) (pieces : Option (List Piece)) → option_map (tokens_at (at + 1)) pieces ≡ option_map (tokens_at at)
+    (option_map (λ l. blank_piece b ∷ l) pieces)
 unfolding tokens_at
 put_blank at b None = refl
 put_blank at b (Some pieces) = refl
 
 put_token : (at : ℕ) (token : Token) (piece : Piece) (pieces : Option (List Piece)) → piece.tokens (place_inside at piece) ≡ token ∷ []
-    → option_map (λ l. token ∷ l) (option_map (tokens_at (at + length (spelling piece))) pieces) ≡ option_map (tokens_at at) (option_map (λ l. piece ∷ l) pieces)
+    → option_map (λ l. token ∷ l) (option_map (tokens_at (at + length (spelling piece))) pieces) ≡ option_map (tokens_at at)
+        (option_map (λ l. piece ∷ l) pieces)
 unfolding tokens_at
 put_token at token piece None is = refl
 put_token at token piece (Some pieces) is = ap (λ l. Some (l ++ tokens_at (at + length (spelling piece)) pieces)) (sym is)
@@ -222,7 +251,8 @@ walks-nothing : (bound at : ℕ) → WalksPieces (suc bound) at []
 unfolding walk pieces_by tokens_at
 walks-nothing bound at = refl
 
-walk_on : (bound at b : ℕ) (rest : List ℕ) (found : Option (Token × ℕ)) (piece : Option Piece) → SamePiece at found piece → length rest < bound
+walk_on : (bound at b : ℕ) (rest : List ℕ) (found : Option (Token × ℕ)) (piece : Option Piece)
+    → SamePiece at found piece → length rest < bound
     → ((at' : ℕ) (text : List ℕ) → length text < bound → WalksPieces bound at' text)
     → token_before (λ end. walk (at + 1) (end - (at + 1)) rest) found
     ≡ option_map (tokens_at at) (piece_before (λ p. pieces_by bound (drop (length (spelling p)) (b ∷ rest))) piece)
@@ -237,7 +267,8 @@ walk_on bound at b rest (Some found) (Some piece) same low each =
     let left : drop passed rest ≡ drop size (b ∷ rest) = ap (λ n. drop n (b ∷ rest)) one in
     let low' : length (drop size (b ∷ rest)) < bound = omega (arith, length-drop size (b ∷ rest), low, same.2) in
     ap (option_map (λ tokens. found.0 ∷ tokens))
-    (walk_passes (at + 1) passed rest ∙ ap (λ n. walk n 0 (drop passed rest)) there ∙ ap (walk (at + size) 0) left ∙ each (at + size) (drop size (b ∷ rest)) low')
+    (walk_passes (at + 1) passed rest ∙ ap (λ n. walk n 0 (drop passed rest)) there ∙ ap (walk (at + size) 0) left
+        ∙ each (at + size) (drop size (b ∷ rest)) low')
     ∙ put_token at found.0 piece (pieces_by bound (drop size (b ∷ rest))) same.0
 
 walk-pieces : (bound at : ℕ) (text : List ℕ) → length text < bound → WalksPieces bound at text
@@ -247,13 +278,15 @@ walk-pieces (suc bound) at [] low = walks-nothing bound at
 walk-pieces (suc bound) at (b ∷ rest) low =
     let more : Piece → Option (List Piece) = λ p. pieces_by bound (drop (length (spelling p)) (b ∷ rest)) in
     let pieces = option_map (tokens_at at) (piece_before more (first_piece (b ∷ rest))) in
-    let walked : Bool → Option (List Token) = λ v. cond v (walk (at + 1) 0 rest) (token_before (λ end. walk (at + 1) (end - (at + 1)) rest) (token_at at b rest)) in
+    let walked : Bool → Option (List Token) = λ v. cond v (walk (at + 1) 0 rest) (token_before (λ end. walk (at + 1) (end - (at + 1)) rest)
+        (token_at at b rest)) in
     let cases : (v : Bool) → is_blank b ≡ v → walked v ≡ pieces =
     λ v. elim v as (λ v. is_blank b ≡ v → walked v ≡ pieces) [
       | true ↦ λ is.
           walk-pieces bound (at + 1) rest (omega (arith, low)) ∙ put_blank at b (pieces_by bound rest)
           ∙ ap (λ p. option_map (tokens_at at) (piece_before more p)) (sym (blank-first b rest is))
-      | false ↦ λ is. walk_on bound at b rest (token_at at b rest) (first_piece (b ∷ rest)) (same-token at b rest is) (omega (arith, low)) (walk-pieces bound)
+      | false ↦ λ is. walk_on bound at b rest (token_at at b rest) (first_piece (b ∷ rest)) (same-token at b rest is)
+          (omega (arith, low)) (walk-pieces bound)
     ] in
     cases (is_blank b) refl
 

@@ -1,14 +1,19 @@
 -- What is read is a tree of the tokens that were taken.
-use Rattle.std.proofs.Common.{◌≡◌, ◌<◌, ◌≤◌, ℕ, zero, suc, max, List, [], ◌∷◌, ◌++◌, length, Option, Some, None, IfSome, option_map, refl, sym, ap, subst, ◌∙◌, arith, append_assoc, length-append}
+use Rattle.std.proofs.Common.{◌≡◌, ◌<◌, ◌≤◌, ℕ, zero, suc, max, List, [], ◌∷◌, ◌++◌, length, Option, Some, None, IfSome, option_map, refl}
+use Rattle.std.proofs.Common.{sym, ap, subst, ◌∙◌, arith, append_assoc, length-append}
 use Rattle.mk_cond_tree.specs.declared.tokens.Side.{Side}
 use Rattle.mk_cond_tree.specs.declared.tokens.Token.{Token}
 use Rattle.mk_cond_tree.specs.declared.tokens.Token.TheVariants as t
-use Rattle.mk_cond_tree.specs.Trees.{OrTree, OrOf, AndTree, AndOf, NotTree, or_tokens, later_and_tokens, and_tokens, later_not_tokens, not_tokens, or_depth, later_and_depth, and_depth, later_not_depth, not_depth}
-use Rattle.mk_cond_tree.specs.Reader.{Reader, after_or, after_and, after_right, first_comparison, operand_on, operands_after, operands_by, operands, later_nots, later_ands, chain_on, and_by, or_by, side_term, close_group, group, negate, inside_of, read_not, read_and}
+use Rattle.mk_cond_tree.specs.Trees.{OrTree, OrOf, AndTree, AndOf, NotTree, or_tokens, later_and_tokens, and_tokens, later_not_tokens}
+use Rattle.mk_cond_tree.specs.Trees.{not_tokens, or_depth, later_and_depth, and_depth, later_not_depth, not_depth}
+use Rattle.mk_cond_tree.specs.Reader.{Reader, after_or, after_and, after_right, first_comparison, operand_on, operands_after, operands_by}
+use Rattle.mk_cond_tree.specs.Reader.{operands, later_nots, later_ands, chain_on, and_by, or_by, side_term, close_group, group, negate}
+use Rattle.mk_cond_tree.specs.Reader.{inside_of, read_not, read_and}
 use Rattle.mk_cond_tree.proofs.Chains.{Shrinks, TakesSome}
 
 -- tokens taken off the front and those left are all of them
-pub record Takes {A : Type 0} (written : A → List Token) (deep : A → ℕ) (limit : ℕ) (tokens : List Token) (read : A × List Token) : Type 0 where
+pub record Takes {A : Type 0} (written : A → List Token) (deep : A → ℕ) (limit : ℕ) (tokens : List Token)
+    (read : A × List Token) : Type 0 where
   pub whole : written read.0 ++ read.1 ≡ tokens
   pub not_deep : deep read.0 ≤ limit
 
@@ -45,9 +50,11 @@ takes token sign is tokens = shorter_sign token tokens (sign tokens) (is tokens)
 shorter_read : {A : Type 0} (written : A → List Token) (deep : A → ℕ) (limit : ℕ) (tokens : List Token) (x : Option (A × List Token))
     → IfSome x (Takes written deep limit tokens) → IfSome x (λ p. length p.1 ≤ length tokens)
 shorter_read written deep limit tokens None h = tt
-shorter_read written deep limit tokens (Some p) h = subst (λ l. length p.1 ≤ length l) h.whole (omega (arith, length-append (written p.0) p.1))
+shorter_read written deep limit tokens (Some p) h = subst (λ l. length p.1 ≤ length l) h.whole
+    (omega (arith, length-append (written p.0) p.1))
 
-shrinks : {A : Type 0} (written : A → List Token) (deep : A → ℕ) (limit : ℕ) (read : Reader A) → IsSound written deep limit read → Shrinks read
+shrinks : {A : Type 0} (written : A → List Token) (deep : A → ℕ) (limit : ℕ) (read : Reader A)
+    → IsSound written deep limit read → Shrinks read
 shrinks written deep limit read sound tokens = shorter_read written deep limit tokens (read tokens) (sound tokens)
 
 -- operands with their signs, and how deep they are
@@ -59,25 +66,32 @@ abbrev pub deepest : {A : Type 0} → (A → ℕ) → List A → ℕ
 deepest deep [] = 0
 deepest deep (x ∷ more) = max (deep x) (deepest deep more)
 
-module _ {A : Type 0} (token : Token) (sign : List Token → Option (List Token)) (is_sign : IsSign token sign) (written : A → List Token) (deep : A → ℕ) (limit : ℕ)
+module _ {A : Type 0} (token : Token) (sign : List Token → Option (List Token)) (is_sign : IsSign token sign) (written : A → List Token)
+    (deep : A → ℕ) (limit : ℕ)
     (read : Reader A) (sound : IsSound written deep limit read) where
-  put_sound : (tokens behind : List Token) (x : A × List Token) (later : Option (List A × List Token)) → tokens ≡ token ∷ behind → Takes written deep limit behind x
+  put_sound : (tokens behind : List Token) (x : A × List Token) (later : Option (List A × List Token)) → tokens ≡ token ∷ behind
+      → Takes written deep limit behind x
       → IfSome later (Takes (joined token written) (deepest deep) limit x.1)
       → IfSome (option_map (λ l. (x.0 ∷ l.0, l.1)) later) (Takes (joined token written) (deepest deep) limit tokens)
   put_sound tokens behind x None is h more = tt
   put_sound tokens behind x (Some l) is h more = record {
-    whole = ap (λ r. token ∷ r) (append_assoc (written x.0) (joined token written l.0) l.1 ∙ ap (λ r. written x.0 ++ r) more.whole ∙ h.whole) ∙ sym is;
+    whole = ap (λ r. token ∷ r) (append_assoc (written x.0) (joined token written l.0) l.1
+        ∙ ap (λ r. written x.0 ++ r) more.whole ∙ h.whole) ∙ sym is;
     not_deep = omega (arith, h.not_deep, more.not_deep);
   }
 
-  operand_sound : (more : Reader (List A)) → IsSound (joined token written) (deepest deep) limit more → (tokens behind : List Token) → tokens ≡ token ∷ behind
-      → (x : Option (A × List Token)) → IfSome x (Takes written deep limit behind) → IfSome (operand_on more x) (Takes (joined token written) (deepest deep) limit tokens)
+  operand_sound : (more : Reader (List A)) → IsSound (joined token written) (deepest deep) limit more → (tokens behind : List Token)
+      → tokens ≡ token ∷ behind
+      → (x : Option (A × List Token)) → IfSome x (Takes written deep limit behind)
+      → IfSome (operand_on more x) (Takes (joined token written) (deepest deep) limit tokens)
   operand_sound more more_sound tokens behind is None h = tt
   operand_sound more more_sound tokens behind is (Some x) h = put_sound tokens behind x (more x.1) is h (more_sound x.1)
 
-  signed_sound : (more : Reader (List A)) → IsSound (joined token written) (deepest deep) limit more → (tokens : List Token) (behind : Option (List Token))
+  signed_sound : (more : Reader (List A)) → IsSound (joined token written) (deepest deep) limit more
+      → (tokens : List Token) (behind : Option (List Token))
       → IfSome behind (λ rest. tokens ≡ token ∷ rest)
-      → IfSome (operands_after (λ rest. operand_on more (read rest)) tokens behind) (Takes (joined token written) (deepest deep) limit tokens)
+      → IfSome (operands_after (λ rest. operand_on more (read rest)) tokens behind)
+          (Takes (joined token written) (deepest deep) limit tokens)
   signed_sound more more_sound tokens None is = record { whole = refl; not_deep = omega arith }
   signed_sound more more_sound tokens (Some behind) is = operand_sound more more_sound tokens behind is (read behind) (sound behind)
 
@@ -98,7 +112,8 @@ module _ {A : Type 0} (token : Token) (sign : List Token → Option (List Token)
         → IfSome (option_map (λ l. (made x.0 l.0, l.1)) later) (Takes all_written all_deep limit tokens)
     made_sound tokens x None h more = tt
     made_sound tokens x (Some l) h more = record {
-      whole = ap (λ r. r ++ l.1) (writes x.0 l.0) ∙ append_assoc (written x.0) (joined token written l.0) l.1 ∙ ap (λ r. written x.0 ++ r) more.whole ∙ h.whole;
+      whole = ap (λ r. r ++ l.1) (writes x.0 l.0) ∙ append_assoc (written x.0) (joined token written l.0) l.1
+          ∙ ap (λ r. written x.0 ++ r) more.whole ∙ h.whole;
       not_deep = subst (λ n. n ≤ limit) (sym (deepens x.0 l.0)) (omega (arith, h.not_deep, more.not_deep));
     }
 
@@ -126,14 +141,17 @@ ands_deep : (more : List AndTree) → later_and_depth (later_ands more) ≡ deep
 ands_deep [] = refl
 ands_deep (x ∷ more) = ap (max (and_depth x)) (ands_deep more)
 
-pub and-sound : (limit : ℕ) (read : Reader NotTree) → IsSound not_tokens not_depth limit read → IsSound and_tokens and_depth limit (and_by read)
+pub and-sound : (limit : ℕ) (read : Reader NotTree) → IsSound not_tokens not_depth limit read
+    → IsSound and_tokens and_depth limit (and_by read)
 and-sound limit read sound tokens =
-    chain-sound t.And after_and and-sign not_tokens not_depth limit read sound (λ first more. AndOf first (later_nots more)) and_tokens and_depth
+    chain-sound t.And after_and and-sign not_tokens not_depth limit read sound (λ first more. AndOf first (later_nots more)) and_tokens
+        and_depth
     (λ x more. ap (λ l. not_tokens x ++ l) (nots_written more)) (λ x more. ap (max (not_depth x)) (nots_deep more)) tokens
 
 pub or-sound : (limit : ℕ) (read : Reader NotTree) → IsSound not_tokens not_depth limit read → IsSound or_tokens or_depth limit (or_by read)
 or-sound limit read sound tokens =
-    chain-sound t.Or after_or or-sign and_tokens and_depth limit (and_by read) (and-sound limit read sound) (λ first more. OrOf first (later_ands more)) or_tokens or_depth
+    chain-sound t.Or after_or or-sign and_tokens and_depth limit (and_by read) (and-sound limit read sound)
+        (λ first more. OrOf first (later_ands more)) or_tokens or_depth
     (λ x more. ap (λ l. and_tokens x ++ l) (ands_written more)) (λ x more. ap (max (and_depth x)) (ands_deep more)) tokens
 
 sided_sound : (limit : ℕ) (left : Side) (rest : List Token)
@@ -149,8 +167,10 @@ turned_sound : (limit : ℕ) (tokens : List Token) (x : Option (NotTree × List 
 turned_sound limit tokens None h = tt
 turned_sound limit tokens (Some x) h = record { whole = ap (λ l. t.Not ∷ l) h.whole; not_deep = omega (arith, h.not_deep) }
 
-closed_sound : (limit : ℕ) (tokens : List Token) (x : OrTree × List Token) (behind : Option (List Token)) → Takes or_tokens or_depth limit tokens x
-    → IfSome behind (λ rest. x.1 ≡ t.Right ∷ rest) → IfSome (close_group x.0 behind) (Takes not_tokens not_depth (suc limit) (t.Left ∷ tokens))
+closed_sound : (limit : ℕ) (tokens : List Token) (x : OrTree × List Token) (behind : Option (List Token))
+    → Takes or_tokens or_depth limit tokens x
+    → IfSome behind (λ rest. x.1 ≡ t.Right ∷ rest)
+    → IfSome (close_group x.0 behind) (Takes not_tokens not_depth (suc limit) (t.Left ∷ tokens))
 closed_sound limit tokens x None h is = tt
 closed_sound limit tokens x (Some rest) h is = record {
   whole = ap (λ l. t.Left ∷ l) (append_assoc (or_tokens x.0) (t.Right ∷ []) rest ∙ ap (λ l. or_tokens x.0 ++ l) (sym is) ∙ h.whole);
@@ -168,7 +188,8 @@ not-sound levels [] = tt
 not-sound zero (t.Not ∷ rest) = tt
 not-sound zero (t.Left ∷ rest) = tt
 not-sound (suc levels) (t.Not ∷ rest) = turned_sound levels rest (read_not levels rest) (not-sound levels rest)
-not-sound (suc levels) (t.Left ∷ rest) = grouped_sound levels rest (or_by (read_not levels) rest) (or-sound levels (read_not levels) (not-sound levels) rest)
+not-sound (suc levels) (t.Left ∷ rest) = grouped_sound levels rest (or_by (read_not levels) rest)
+    (or-sound levels (read_not levels) (not-sound levels) rest)
 not-sound levels (t.Call call argument ∷ rest) = record { whole = refl; not_deep = omega arith }
 not-sound levels (t.Side side ∷ rest) = sided_sound levels side rest
 not-sound levels (token ∷ rest) = tt

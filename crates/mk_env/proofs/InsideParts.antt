@@ -1,5 +1,7 @@
 -- The name and the modifiers of a reference's inside, by the place of its first colon.
-use Rattle.std.proofs.Common.{◌≡◌, ◌==◌, ℕ, ◌+◌, ◌<◌, ◌≤◌, Bool, true, false, not, cond, if◌then◌else◌, List, [], ◌∷◌, ◌++◌, length, take, drop, Option, Some, None, option_map, refl, sym, ap, ◌∙◌, arith, append-nil, length-append, eqb-true, get_or, subst, nat_eq}
+use Rattle.std.proofs.Common.{◌≡◌, ◌==◌, ℕ, ◌+◌, ◌<◌, ◌≤◌, Bool, true, false, not, cond, if◌then◌else◌, List, [], ◌∷◌, ◌++◌, length, take}
+use Rattle.std.proofs.Common.{drop, Option, Some, None, option_map, refl, sym, ap, ◌∙◌, arith, append-nil, length-append, eqb-true, get_or}
+use Rattle.std.proofs.Common.{subst, nat_eq}
 use Rattle.std.specs.List.{flat_map, position, prefix_len}
 use Rattle.std.proofs.lemmas.Grind.{common_steps}
 use Rattle.mk_ref.specs.Atoms.{TextAtom, Byte, EscapedDollar, Reference, sources, before_colon, following_colon, atoms_of, left_of}
@@ -22,31 +24,36 @@ other-dollars (b ∷ text) more = let rest = other-dollars text more in omega (a
 other-atoms : (atoms : List TextAtom) → prefix_len is_other (flat_map covered atoms) ≡ length (sources (before_colon atoms))
 other-atoms [] = refl
 other-atoms (Byte b ∷ atoms) =
-    elim (b == 58) as (λ (t : Bool). cond (not t) (1 + prefix_len is_other (flat_map covered atoms)) 0 ≡ length (sources (if t then [] else (Byte b ∷ before_colon atoms)))) [
+    elim (b == 58) as (λ (t : Bool). cond (not t) (1 + prefix_len is_other (flat_map covered atoms)) 0 ≡ length
+        (sources (if t then [] else (Byte b ∷ before_colon atoms)))) [
       | true ↦ refl
       | false ↦ let rest = other-atoms atoms in omega (arith, rest)
     ]
 other-atoms (EscapedDollar ∷ atoms) = let rest = other-atoms atoms in omega (arith, rest)
 other-atoms (Reference written name modifiers ∷ atoms) =
-    other-dollars written (flat_map covered atoms) ∙ ap (λ n. length written + n) (other-atoms atoms) ∙ sym (length-append written (sources (before_colon atoms)))
+    other-dollars written (flat_map covered atoms) ∙ ap (λ n. length written + n) (other-atoms atoms)
+        ∙ sym (length-append written (sources (before_colon atoms)))
 
 whole-text : (text : List ℕ) → left_of text ≡ [] → sources (atoms_of text) ≡ text
 whole-text text whole = sym (append-nil (sources (atoms_of text))) ∙ ap (λ l. sources (atoms_of text) ++ l) (sym whole) ∙ atoms-text text
 
-around-text : (text : List ℕ) → left_of text ≡ [] → sources (before_colon (atoms_of text)) ++ with_colon (option_map sources (following_colon (atoms_of text))) ≡ text
+around-text : (text : List ℕ) → left_of text ≡ [] → sources (before_colon (atoms_of text)) ++ with_colon
+    (option_map sources (following_colon (atoms_of text))) ≡ text
 around-text text whole = around_colon (atoms_of text) ∙ whole-text text whole
 
 other-text : (text : List ℕ) → left_of text ≡ [] → prefix_len is_other (outside text) ≡ length (sources (before_colon (atoms_of text)))
 unfolding outside
 other-text text whole =
-    ap (λ l. prefix_len is_other (flat_map covered (atoms_of text) ++ dollars l)) whole ∙ ap (prefix_len is_other) (append-nil (flat_map covered (atoms_of text))) ∙ other-atoms (atoms_of text)
+    ap (λ l. prefix_len is_other (flat_map covered (atoms_of text) ++ dollars l)) whole
+        ∙ ap (prefix_len is_other) (append-nil (flat_map covered (atoms_of text))) ∙ other-atoms (atoms_of text)
 
 -- a text put together of a name and modifiers is cut at its colon into these again
 pub record IsCutAt (name : List ℕ) (modifiers : Option (List ℕ)) (text : List ℕ) : Type 0 where
   pub name_is : take (length name) text ≡ name
   pub modifiers_are : Some (drop (length name + 1) text) ≡ modifiers
 
-cut-at : (name : List ℕ) (modifiers : Option (List ℕ)) (text : List ℕ) → name ++ with_colon modifiers ≡ text → length name < length text → IsCutAt name modifiers text
+cut-at : (name : List ℕ) (modifiers : Option (List ℕ)) (text : List ℕ) → name ++ with_colon modifiers ≡ text → length name < length text
+    → IsCutAt name modifiers text
 cut-at name None text is inside = absurd (omega (arith, inside, ap length (sym (append-nil name) ∙ is)))
 cut-at name (Some modifiers) text is inside =
     subst (IsCutAt name (Some modifiers)) is (record {
@@ -59,7 +66,8 @@ pub record IsNameAlone (name : List ℕ) (modifiers : Option (List ℕ)) (text :
   pub name_is : text ≡ name
   pub modifiers_are : None ≡ modifiers
 
-alone : (name : List ℕ) (modifiers : Option (List ℕ)) (text : List ℕ) → name ++ with_colon modifiers ≡ text → length text ≤ length name → IsNameAlone name modifiers text
+alone : (name : List ℕ) (modifiers : Option (List ℕ)) (text : List ℕ) → name ++ with_colon modifiers ≡ text → length text ≤ length name
+    → IsNameAlone name modifiers text
 alone name None text is short = record { name_is = sym is ∙ append-nil name; modifiers_are = refl }
 alone name (Some modifiers) text is short = absurd (omega (arith, short, sym (length-append name (58 ∷ modifiers)) ∙ ap length is))
 
@@ -92,8 +100,10 @@ first-colon text at whole is =
     }
 
 -- if no colon is outside references, the whole inside is the name
-pub no-colon : (text : List ℕ) → left_of text ≡ [] → position (λ b. nat_eq b 58) (outside text) ≡ None → IsNameAlone (sources (before_colon (atoms_of text))) (option_map sources (following_colon (atoms_of text))) text
+pub no-colon : (text : List ℕ) → left_of text ≡ [] → position (λ b. nat_eq b 58) (outside text) ≡ None
+    → IsNameAlone (sources (before_colon (atoms_of text))) (option_map sources (following_colon (atoms_of text))) text
 no-colon text whole is =
     let name = sources (before_colon (atoms_of text)) in
     let none = no-place (outside text) is in
-    alone name (option_map sources (following_colon (atoms_of text))) text (around-text text whole) (omega (arith, none, other-text text whole, length-outside text))
+    alone name (option_map sources (following_colon (atoms_of text))) text (around-text text whole)
+        (omega (arith, none, other-text text whole, length-outside text))

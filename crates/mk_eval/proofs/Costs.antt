@@ -1,5 +1,6 @@
 -- Evaluations and values cost no more than their budgets.
-use Rattle.std.proofs.Common.{◌≡◌, ◌≤◌, ◌∙◌, ℕ, Bool, true, false, if◌then◌else◌, List, Option, None, is_some, Result, Ok, Err, refl, sym, ap, subst, arith}
+use Rattle.std.proofs.Common.{◌≡◌, ◌≤◌, ◌∙◌, ℕ, Bool, true, false, if◌then◌else◌, List, Option, None, is_some, Result, Ok, Err, refl, sym}
+use Rattle.std.proofs.Common.{ap, subst, arith}
 use Rattle.mk_base.specs.declared.faults.FaultKind.{FaultKind}
 use Rattle.mk_base.specs.declared.budget.TheConstants.{UNITS}
 use Rattle.mk_base.specs.FaultAt.{FaultAt}
@@ -28,7 +29,8 @@ evaluations-few world name flavors =
     let costs = beside-costs (with_questions None (shared.asks (full UNITS))) (shared.ends (full UNITS)) in
     subst (λ (cost : ℕ). cost ≤ UNITS) (sym (ap cost_of is ∙ costs)) (shared.steady.within (full UNITS) (omega arith))
 
-valued-costs : (makefile : List ℕ) (end : Result (List ℕ × Meter) (FaultKind × Meter)) → value_units (valued (tell (at makefile 0) end)) ≡ (left end).spent
+valued-costs : (makefile : List ℕ) (end : Result (List ℕ × Meter) (FaultKind × Meter))
+    → value_units (valued (tell (at makefile 0) end)) ≡ (left end).spent
 valued-costs makefile (Ok end) = refl
 valued-costs makefile (Err end) = refl
 
@@ -38,7 +40,8 @@ module _ (variables : Variables) (makefile name : List ℕ) where
 
   by-there : (there : Bool) → value_units (if there then valued (tell (at makefile 0) work) else Ok None) ≤ UNITS
   by-there true =
-      subst (λ (cost : ℕ). cost ≤ UNITS) (sym (valued-costs makefile work)) ((steady-variable variables name).within (full UNITS) (omega arith))
+      subst (λ (cost : ℕ). cost ≤ UNITS) (sym (valued-costs makefile work))
+          ((steady-variable variables name).within (full UNITS) (omega arith))
   by-there false = omega arith
 
 values-few : (variables : Variables) (makefile name : List ℕ) → value_units (value_of_variable variables makefile name) ≤ UNITS

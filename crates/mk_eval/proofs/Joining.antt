@@ -14,7 +14,9 @@ module _ {X : Type 0} (f : X → List ℕ) (mark : List ℕ) where
   join_by-between (x ∷ xs) = ap (λ rest. f x ++ rest) (behind xs)
 
 -- a text that was joined of these texts
-pub joined-between : {E : Type 0} (result : Result (String Global) E) (mark : List ℕ) (items : List (String Global)) (texts : List (List ℕ)) → map string_bytes items ≡ texts
-    → IfOk result (λ text. string_bytes text ≡ join_by string_bytes mark items) → IfOk result (λ text. string_bytes text ≡ between mark texts)
+pub joined-between : {E : Type 0} (result : Result (String Global) E) (mark : List ℕ) (items : List (String Global)) (texts : List (List ℕ))
+    → map string_bytes items ≡ texts
+    → IfOk result (λ text. string_bytes text ≡ join_by string_bytes mark items)
+    → IfOk result (λ text. string_bytes text ≡ between mark texts)
 joined-between (Ok text) mark items texts same is = is ∙ join_by-between string_bytes mark items ∙ ap (between mark) same
 joined-between (Err failed) mark items texts same is = tt

@@ -16,7 +16,8 @@ use Rattle.mk_eval.specs.Agreement.{Agrees, cost_of, questions_of, IsTheSameWher
 use Rattle.mk_eval.proofs.Shared.{Shared, with_questions}
 use Rattle.mk_eval.proofs.SharedEvaluation.{shared-evaluation}
 
-evaluated-beside : (one other : Option (List Question)) (r : Result (EvalState × Meter) (FaultAt × Meter)) → evaluated (beside one r) ≡ evaluated (beside other r)
+evaluated-beside : (one other : Option (List Question)) (r : Result (EvalState × Meter) (FaultAt × Meter))
+    → evaluated (beside one r) ≡ evaluated (beside other r)
 evaluated-beside one other (Ok end) = refl
 evaluated-beside one other (Err end) = refl
 
@@ -28,7 +29,8 @@ meter-beside : (log : Option (List Question)) (r : Result (EvalState × Meter) (
 meter-beside log (Ok end) = refl
 meter-beside log (Err end) = refl
 
-cost-beside : (log : Option (List Question)) (r : Result (EvalState × Meter) (FaultAt × Meter)) → cost_of (evaluated (beside log r)) ≡ (left r).spent
+cost-beside : (log : Option (List Question)) (r : Result (EvalState × Meter) (FaultAt × Meter))
+    → cost_of (evaluated (beside log r)) ≡ (left r).spent
 cost-beside log (Ok end) = refl
 cost-beside log (Err end) = refl
 
@@ -53,11 +55,14 @@ module _ (files other : FileMap) (settings : Settings) (name : List ℕ) (flavor
       sym (both.same (full UNITS) spending few (omega arith)) ∙ sym (asked-is spending)
 
   cost-is : cost_of (means (files, settings) name flavors) ≡ spending
-  cost-is = ap (λ end. cost_of (evaluated end)) (both.is (full UNITS) None) ∙ cost-beside (with_questions None (both.asks (full UNITS))) (both.ends (full UNITS))
+  cost-is = ap (λ end. cost_of (evaluated end)) (both.is (full UNITS) None) ∙ cost-beside (with_questions None (both.asks (full UNITS)))
+      (both.ends (full UNITS))
 
   module _ (agrees : Agrees other (questions_of files settings name flavors)) where
-    ends-alike : evaluation (other, settings) name flavors (unspent_account UNITS None) ≡ evaluation (files, settings) name flavors (unspent_account UNITS None)
-    ends-alike = both.shared (full UNITS) None (subst (Agrees other) (ap (questions_asked (files, settings) name flavors) cost-is ∙ sym asked-whole) agrees)
+    ends-alike : evaluation (other, settings) name flavors (unspent_account UNITS None) ≡ evaluation (files, settings) name flavors
+        (unspent_account UNITS None)
+    ends-alike = both.shared (full UNITS) None (subst (Agrees other) (ap (questions_asked (files, settings) name flavors) cost-is
+        ∙ sym asked-whole) agrees)
 
     means-alike : means (other, settings) name flavors ≡ means (files, settings) name flavors
     means-alike = ap evaluated ends-alike
@@ -75,8 +80,11 @@ module _ (files other : FileMap) (settings : Settings) (name : List ℕ) (flavor
     questions-alike = ap (λ known. questions_asked (other, settings) name flavors (cost_of known)) means-alike ∙ asked-alike
 
 pub same-where-answered : IsTheSameWhereAnswered
-same-where-answered files other settings name flavors agrees = (means-alike files other settings name flavors agrees, questions-alike files other settings name flavors agrees)
+same-where-answered files other settings name flavors agrees = (means-alike files other settings name flavors agrees, questions-alike files
+    other settings name flavors agrees)
 
 -- what is known of the log, and that nothing but questions were asked, says what is left of the files
-pub noted-by : (old new : FilesView) (questions : List Question) → AfterQuestions old new → new.log ≡ with_questions old.log questions → new ≡ noted old questions
-noted-by old new questions asked log = asked.in_log ∙ ap (λ log. record old { log = log }) (sym (ap (λ (world : FilesView). world.log) asked.in_log) ∙ log)
+pub noted-by : (old new : FilesView) (questions : List Question) → AfterQuestions old new → new.log ≡ with_questions old.log questions
+    → new ≡ noted old questions
+noted-by old new questions asked log = asked.in_log ∙ ap (λ log. record old { log = log })
+    (sym (ap (λ (world : FilesView). world.log) asked.in_log) ∙ log)

@@ -13,7 +13,8 @@ use Rattle.mk_cond_tree.specs.declared.tokens.Call.TheVariants.{Defined, Empty, 
 use Rattle.mk_cond_tree.specs.declared.tokens.Comparison.{Comparison}
 use Rattle.mk_cond_tree.specs.declared.tokens.Side.{Side}
 use Rattle.mk_cond_tree.specs.declared.tokens.Side.TheVariants.{Quoted, Bare}
-use Rattle.mk_cond_tree.specs.Trees.{OrTree, OrOf, LaterAnds, NoAnds, MoreAnds, AndTree, AndOf, LaterNots, NoNots, MoreNots, NotTree, Negated, Grouped, Called, Compared, Alone}
+use Rattle.mk_cond_tree.specs.Trees.{OrTree, OrOf, LaterAnds, NoAnds, MoreAnds, AndTree, AndOf, LaterNots, NoNots, MoreNots, NotTree}
+use Rattle.mk_cond_tree.specs.Trees.{Negated, Grouped, Called, Compared, Alone}
 use Rattle.mk_cond_tree.specs.Conditions.{tree_in}
 use Rattle.mk_cond.specs.Numbers.{hex_or_decimal}
 use Rattle.mk_cond.specs.Leaves.{Surroundings, ask_if_there, call_holds, known, compared, has_reference, lone, bare, side_alone}
@@ -28,7 +29,8 @@ steady-known : (held : Option Bool) → Steady (known held)
 steady-known None = steady-fail kinds.Condition
 steady-known (Some held) = steady-give held
 
-steady-compared : (variables : Variables) (text : List ℕ) (one : Side) (comparison : Comparison) (other : Side) → Steady (compared variables text one comparison other)
+steady-compared : (variables : Variables) (text : List ℕ) (one : Side) (comparison : Comparison) (other : Side)
+    → Steady (compared variables text one comparison other)
 steady-compared variables text one comparison other =
     steady.bind (steady-expand variables _) (λ left. steady.bind (steady-expand variables _) (λ right. steady-known _))
 
@@ -46,7 +48,8 @@ module _ (other : FileMap) (s : Surroundings) where
   shared-called Defined argument = shared-quietly other (steady.bind (steady-expand s.variables argument) (λ name. steady-give _))
   shared-called Empty argument = shared-quietly other (steady.bind (steady-inside s.variables argument) (λ value. steady-give _))
   shared-called Exists argument =
-      bind (shared-quietly other (steady-expand s.variables argument)) (λ file. shared-is_there s.files other (resolved (name_under (directory_of s.makefile) file)))
+      bind (shared-quietly other (steady-expand s.variables argument))
+          (λ file. shared-is_there s.files other (resolved (name_under (directory_of s.makefile) file)))
   shared-called Make argument = shared-give other false
   shared-called Target argument = shared-give other false
 
@@ -56,7 +59,8 @@ module _ (other : FileMap) (s : Surroundings) where
 
   shared-bare : (word : List ℕ) → Shared other (bare s word) (bare (among other s) word)
   shared-bare word =
-      either (has_reference word) (shared-quietly other (steady.bind (steady-expand s.variables word) (λ found. steady-give _))) (shared-lone word (hex_or_decimal word))
+      either (has_reference word) (shared-quietly other (steady.bind (steady-expand s.variables word) (λ found. steady-give _)))
+          (shared-lone word (hex_or_decimal word))
 
   shared-alone : (side : Side) → Shared other (side_alone s side) (side_alone (among other s) side)
   shared-alone (Quoted span) = shared-quietly other (steady.bind (steady-expand s.variables _) (λ found. steady-give _))
@@ -66,14 +70,16 @@ module _ (other : FileMap) (s : Surroundings) where
     shared-or : (tree : OrTree) → Shared other (or_truth s tree) (or_truth (among other s) tree)
     shared-or (OrOf and more) = bind (shared-and and) (shared-later_ands more)
 
-    shared-later_ands : (more : LaterAnds) (held : Bool) → Shared other (later_ands_truth s more held) (later_ands_truth (among other s) more held)
+    shared-later_ands : (more : LaterAnds) (held : Bool) → Shared other (later_ands_truth s more held)
+        (later_ands_truth (among other s) more held)
     shared-later_ands NoAnds held = shared-give other held
     shared-later_ands (MoreAnds and more) held = either held (shared-give other true) (bind (shared-and and) (shared-later_ands more))
 
     shared-and : (tree : AndTree) → Shared other (and_truth s tree) (and_truth (among other s) tree)
     shared-and (AndOf term more) = bind (shared-not term) (shared-later_nots more)
 
-    shared-later_nots : (more : LaterNots) (held : Bool) → Shared other (later_nots_truth s more held) (later_nots_truth (among other s) more held)
+    shared-later_nots : (more : LaterNots) (held : Bool) → Shared other (later_nots_truth s more held)
+        (later_nots_truth (among other s) more held)
     shared-later_nots NoNots held = shared-give other held
     shared-later_nots (MoreNots term more) held = either held (bind (shared-not term) (shared-later_nots more)) (shared-give other false)
 
@@ -97,7 +103,9 @@ unfolding condition_truth
 shared-condition other s = bind (shared-tree_read other s.text (left_of s.text)) (shared-or other s)
 
 module _ (files other : FileMap) (variables : Variables) (makefile : List ℕ) where
-  pub shared-parts : (parts : Option (_ × List ℕ)) → Shared other (parts_truth variables files makefile parts) (parts_truth variables other makefile parts)
+  pub shared-parts : (parts : Option (_ × List ℕ)) → Shared other (parts_truth variables files makefile parts)
+      (parts_truth variables other makefile parts)
   shared-parts None = shared-fail other kinds.Condition
   shared-parts (Some (form, text)) =
-      bind (shared-condition other (record { variables = variables; files = files; makefile = makefile; text = text; word = form.word })) (λ held. shared-give other _)
+      bind (shared-condition other (record { variables = variables; files = files; makefile = makefile; text = text; word = form.word }))
+          (λ held. shared-give other _)

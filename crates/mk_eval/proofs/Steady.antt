@@ -1,5 +1,6 @@
 -- Work whose outcome is the same under a lower limit that it doesn't reach.
-use Rattle.std.proofs.Common.{◌≡◌, ◌≤◌, ◌+◌, ◌∙◌, ℕ, nat_lt, Bool, true, false, List, [], ◌∷◌, Result, Ok, Err, if◌then◌else◌, refl, sym, ap, subst, arith}
+use Rattle.std.proofs.Common.{◌≡◌, ◌≤◌, ◌+◌, ◌∙◌, ℕ, nat_lt, Bool, true, false, List, [], ◌∷◌, Result, Ok, Err, if◌then◌else◌, refl, sym}
+use Rattle.std.proofs.Common.{ap, subst, arith}
 use Rattle.std.proofs.lemmas.Bool.Decides.{nat_tests}
 use Rattle.mk_base.specs.declared.faults.FaultKind.{FaultKind}
 use Rattle.mk_base.specs.declared.faults.FaultKind.TheVariants as kinds
@@ -28,7 +29,8 @@ steady-give x = record { stays = λ m. refl; onward = λ m. omega arith; within 
 pub steady-fail : {A F : Type 0} (fault : F) → Steady {A = A} {F = F} (fail fault)
 steady-fail fault = record { stays = λ m. refl; onward = λ m. omega arith; within = λ m inside. inside; lower = λ m limit low inside. refl }
 
-module _ {A B F : Type 0} (work : Work Meter F A) (next : A → Work Meter F B) (first : Steady work) (second : (x : A) → Steady (next x)) where
+module _ {A B F : Type 0} (work : Work Meter F A) (next : A → Work Meter F B) (first : Steady work)
+    (second : (x : A) → Steady (next x)) where
   stays_by : (m : Meter) (r : Result (A × Meter) (F × Meter)) → work m ≡ r → (left (after r next)).limit ≡ m.limit
   stays_by m (Ok end) is = (second end.0).stays end.1 ∙ ap (λ (r : Result (A × Meter) (F × Meter)). (left r).limit) (sym is) ∙ first.stays m
   stays_by m (Err end) is = ap (λ (r : Result (A × Meter) (F × Meter)). (left r).limit) (sym is) ∙ first.stays m
@@ -42,26 +44,32 @@ module _ {A B F : Type 0} (work : Work Meter F A) (next : A → Work Meter F B) 
   within_by : (m : Meter) (r : Result (A × Meter) (F × Meter)) → work m ≡ r → m.spent ≤ m.limit → (left (after r next)).spent ≤ m.limit
   within_by m (Ok end) is inside =
       let stays : end.1.limit ≡ m.limit = ap (λ (r : Result (A × Meter) (F × Meter)). (left r).limit) (sym is) ∙ first.stays m in
-      let before : end.1.spent ≤ m.limit = subst (λ (r : Result (A × Meter) (F × Meter)). (left r).spent ≤ m.limit) is (first.within m inside) in
+      let before : end.1.spent ≤ m.limit = subst (λ (r : Result (A × Meter) (F × Meter)). (left r).spent ≤ m.limit) is
+          (first.within m inside) in
       let there : end.1.spent ≤ end.1.limit = omega (arith, before, stays) in
       let after' : (left (next end.0 end.1)).spent ≤ end.1.limit = (second end.0).within end.1 there in
       omega (arith, after', stays)
   within_by m (Err end) is inside = subst (λ (r : Result (A × Meter) (F × Meter)). (left r).spent ≤ m.limit) is (first.within m inside)
 
-  pub lower_by : (m : Meter) (limit : ℕ) (r : Result (A × Meter) (F × Meter)) → work m ≡ r → limit ≤ m.limit → (left (after r next)).spent ≤ limit
+  pub lower_by : (m : Meter) (limit : ℕ) (r : Result (A × Meter) (F × Meter)) → work m ≡ r → limit ≤ m.limit
+      → (left (after r next)).spent ≤ limit
       → after (work (under limit m)) next ≡ lowered limit (after r next)
   lower_by m limit (Ok end) is low inside =
       let stays : end.1.limit ≡ m.limit = ap (λ (r : Result (A × Meter) (F × Meter)). (left r).limit) (sym is) ∙ first.stays m in
-      let reached : (left (work m)).spent ≤ limit = subst (λ (r : Result (A × Meter) (F × Meter)). (left r).spent ≤ limit) (sym is) (omega (arith, (second end.0).onward end.1, inside)) in
+      let reached : (left (work m)).spent ≤ limit = subst (λ (r : Result (A × Meter) (F × Meter)). (left r).spent ≤ limit) (sym is)
+          (omega (arith, (second end.0).onward end.1, inside)) in
       ap (λ r. after r next) (first.lower m limit low reached ∙ ap (lowered limit) is)
       ∙ (second end.0).lower end.1 limit (omega (arith, stays, low)) inside
   lower_by m limit (Err end) is low inside =
-      let reached : (left (work m)).spent ≤ limit = subst (λ (r : Result (A × Meter) (F × Meter)). (left r).spent ≤ limit) (sym is) inside in
+      let reached : (left (work m)).spent ≤ limit = subst (λ (r : Result (A × Meter) (F × Meter)). (left r).spent ≤ limit) (sym is) inside
+          in
       ap (λ r. after r next) (first.lower m limit low reached ∙ ap (lowered limit) is)
 
   -- what is spent by the first work alone isn't more than by both
-  pub first_within : (m : Meter) (limit : ℕ) (r : Result (A × Meter) (F × Meter)) → work m ≡ r → (left (after r next)).spent ≤ limit → (left (work m)).spent ≤ limit
-  first_within m limit (Ok end) is inside = subst (λ (r : Result (A × Meter) (F × Meter)). (left r).spent ≤ limit) (sym is) (omega (arith, (second end.0).onward end.1, inside))
+  pub first_within : (m : Meter) (limit : ℕ) (r : Result (A × Meter) (F × Meter)) → work m ≡ r → (left (after r next)).spent ≤ limit
+      → (left (work m)).spent ≤ limit
+  first_within m limit (Ok end) is inside = subst (λ (r : Result (A × Meter) (F × Meter)). (left r).spent ≤ limit) (sym is)
+      (omega (arith, (second end.0).onward end.1, inside))
   first_within m limit (Err end) is inside = subst (λ (r : Result (A × Meter) (F × Meter)). (left r).spent ≤ limit) (sym is) inside
 
   pub steady-bind : Steady (work >>= next)
@@ -77,14 +85,17 @@ steady-if true one other first second = first
 steady-if false one other first second = second
 
 -- the same where the meter is handed in before the choice
-pub steady-choice : {A F : Type 0} (test : Bool) (one other : Work Meter F A) → Steady one → Steady other → Steady (λ m. if test then one m else other m)
+pub steady-choice : {A F : Type 0} (test : Bool) (one other : Work Meter F A) → Steady one → Steady other
+    → Steady (λ m. if test then one m else other m)
 steady-choice true one other first second = first
 steady-choice false one other first second = second
 
-pub steady-each : {S X F : Type 0} (iteration : S → X → Work Meter F S) → ((s : S) (x : X) → Steady (iteration s x)) → (s : S) (xs : List X) → Steady (each iteration s xs)
+pub steady-each : {S X F : Type 0} (iteration : S → X → Work Meter F S) → ((s : S) (x : X) → Steady (iteration s x)) → (s : S) (xs : List X)
+    → Steady (each iteration s xs)
 unfolding each
 steady-each iteration steady s [] = steady-give s
-steady-each iteration steady s (x ∷ xs) = steady-bind (iteration s x) (λ next. each iteration next xs) (steady s x) (λ next. steady-each iteration steady next xs)
+steady-each iteration steady s (x ∷ xs) = steady-bind (iteration s x) (λ next. each iteration next xs) (steady s x)
+    (λ next. steady-each iteration steady next xs)
 
 module _ {A F G : Type 0} (f : F → G) (work : Work Meter F A) (steady : Steady work) where
   pub told_left : (r : Result (A × Meter) (F × Meter)) → left (tell f r) ≡ left r
@@ -100,7 +111,8 @@ module _ {A F G : Type 0} (f : F → G) (work : Work Meter F A) (steady : Steady
     stays = λ m. ap (λ (end : Meter). end.limit) (told_left (work m)) ∙ steady.stays m;
     onward = λ m. subst (λ (end : Meter). m.spent ≤ end.spent) (sym (told_left (work m))) (steady.onward m);
     within = λ m inside. subst (λ (end : Meter). end.spent ≤ m.limit) (sym (told_left (work m))) (steady.within m inside);
-    lower = λ m limit low inside. ap (tell f) (steady.lower m limit low (subst (λ (end : Meter). end.spent ≤ limit) (told_left (work m)) inside)) ∙ told_lowered limit (work m);
+    lower = λ m limit low inside. ap (tell f)
+        (steady.lower m limit low (subst (λ (end : Meter). end.spent ≤ limit) (told_left (work m)) inside)) ∙ told_lowered limit (work m);
   }
 
 -- what paying does, by whether a unit is left
@@ -119,7 +131,8 @@ pay-within : (m : Meter) (room : Bool) → nat_lt m.spent m.limit ≡ room → m
 pay-within m true is inside = grind (arith, nat_tests)
 pay-within m false is inside = inside
 
-still_paid : (spent old limit : ℕ) (room : Bool) → nat_lt spent old ≡ room → limit ≤ old → (room ≡ true → spent + 1 ≤ limit) → nat_lt spent limit ≡ room
+still_paid : (spent old limit : ℕ) (room : Bool) → nat_lt spent old ≡ room → limit ≤ old → (room ≡ true → spent + 1 ≤ limit)
+    → nat_lt spent limit ≡ room
 still_paid spent old limit true is low inside = let there = inside refl in grind (arith, nat_tests)
 still_paid spent old limit false is low inside = grind (arith, nat_tests)
 
@@ -137,7 +150,8 @@ steady-pay = record {
   onward = λ m. pay-onward m (nat_lt m.spent m.limit);
   within = λ m. pay-within m (nat_lt m.spent m.limit) refl;
   lower = λ m limit low inside.
-      ap (λ room. paid room (under limit m)) (still_paid m.spent m.limit limit (nat_lt m.spent m.limit) refl low (pay-room m limit (nat_lt m.spent m.limit) inside))
+      ap (λ room. paid room (under limit m)) (still_paid m.spent m.limit limit (nat_lt m.spent m.limit) refl low
+          (pay-room m limit (nat_lt m.spent m.limit) inside))
       ∙ paid-lowered m limit (nat_lt m.spent m.limit);
 }
 
@@ -166,11 +180,13 @@ steady-question = record {
 }
 
 -- one work and another, one of two works: the works are read off what is to be shown
-pub bind : {A B F : Type 0} {work : Work Meter F A} {next : A → Work Meter F B} → Steady work → ((x : A) → Steady (next x)) → Steady (work >>= next)
+pub bind : {A B F : Type 0} {work : Work Meter F A} {next : A → Work Meter F B} → Steady work → ((x : A) → Steady (next x))
+    → Steady (work >>= next)
 bind {work = work} {next = next} first second = steady-bind work next first second
 
 pub either : {A F : Type 0} {one other : Work Meter F A} (test : Bool) → Steady one → Steady other → Steady (if test then one else other)
 either {one = one} {other = other} test first second = steady-if test one other first second
 
-pub over : {S X F : Type 0} {iteration : S → X → Work Meter F S} → ((s : S) (x : X) → Steady (iteration s x)) → (s : S) (xs : List X) → Steady (each iteration s xs)
+pub over : {S X F : Type 0} {iteration : S → X → Work Meter F S} → ((s : S) (x : X) → Steady (iteration s x)) → (s : S) (xs : List X)
+    → Steady (each iteration s xs)
 over {iteration = iteration} steady s xs = steady-each iteration steady s xs

@@ -6,13 +6,16 @@ use Rattle.mk_ast.specs.declared.kinds.Directive.{Directive}
 use Rattle.mk_ast.specs.declared.kinds.Directive.TheVariants as words
 use Rattle.mk_ast.specs.declared.kinds.Operator.{Operator}
 use Rattle.mk_ast.specs.declared.kinds.Operator.TheVariants as operators
-use Rattle.mk_ast.specs.Kinds.{TextLineKind, CommandLine, BlankLine, DirectiveLine, AssignmentLine, DependencyLine, BadLine, is_word, line_kind}
+use Rattle.mk_ast.specs.Kinds.{TextLineKind, CommandLine, BlankLine, DirectiveLine, AssignmentLine, DependencyLine, BadLine, is_word}
+use Rattle.mk_ast.specs.Kinds.{line_kind}
 use Rattle.mk_ref.specs.Atoms.{TextAtom, Byte, EscapedDollar, Reference, atoms_of, left_of}
 use Rattle.mk_env.specs.Texts.{Variables, appended, text_in}
 use Rattle.mk_loop.specs.LoopWords.{LoopWords, word_named}
-use Rattle.mk_loop.specs.BodyLine.{SoFar, Puts, nothing, with_loop_word, finished, modified_word, put_reference, put_atom, put_by, put, where_closed, put_words}
+use Rattle.mk_loop.specs.BodyLine.{SoFar, Puts, nothing, with_loop_word, finished, modified_word, put_reference, put_atom, put_by, put}
+use Rattle.mk_loop.specs.BodyLine.{where_closed, put_words}
 use Rattle.mk_loop.specs.Header.{header_parts, formed, header}
-use Rattle.mk_eval.specs.Lines.{Loops, store, assign, assign_to, direct, execute_kind, put_in, read_again, execute_in, perform_kind, perform}
+use Rattle.mk_eval.specs.Lines.{Loops, store, assign, assign_to, direct, execute_kind, put_in, read_again, execute_in, perform_kind}
+use Rattle.mk_eval.specs.Lines.{perform}
 use Rattle.mk_eval.specs.Heads.{head_text, iterations}
 use Rattle.mk_eval.proofs.Steady.{Steady, steady-give, steady-fail, steady-pay, bind, either, over}
 use Rattle.mk_eval.proofs.SteadyTexts.{steady-bounded, steady-expand, steady-expand_now, steady-modified_by}
@@ -30,11 +33,14 @@ record PutsSteadily (puts : Puts) : Type 0 where
 module _ (words : LoopWords) (variables : Variables) (puts : Puts) (does : PutsSteadily puts) where
   steady-changed : (modifiers : Option (List ℕ)) (word : List ℕ) → Steady (modified_word variables puts modifiers word)
   steady-changed None word = steady-give word
-  steady-changed (Some modifiers) word = bind (bind (does.all nothing modifiers) steady-finished) (λ text. steady-modified_by variables text word)
+  steady-changed (Some modifiers) word = bind (bind (does.all nothing modifiers) steady-finished)
+      (λ text. steady-modified_by variables text word)
 
-  steady-put_reference : (so_far : SoFar) (written : List ℕ) (modifiers : Option (List ℕ)) (word : Option (List ℕ)) → Steady (put_reference variables puts so_far written modifiers word)
+  steady-put_reference : (so_far : SoFar) (written : List ℕ) (modifiers : Option (List ℕ)) (word : Option (List ℕ))
+      → Steady (put_reference variables puts so_far written modifiers word)
   steady-put_reference so_far written modifiers None = bind (does.all _ _) (λ found. steady-give _)
-  steady-put_reference so_far written modifiers (Some word) = bind steady-pay (λ _. bind (steady-changed modifiers word) (λ found. steady-with_word so_far found))
+  steady-put_reference so_far written modifiers (Some word) =
+      bind steady-pay (λ _. bind (steady-changed modifiers word) (λ found. steady-with_word so_far found))
 
   steady-put_atom : (so_far : SoFar) (atom : TextAtom) → Steady (put_atom words variables puts so_far atom)
   steady-put_atom so_far (Byte b) = steady-give _
@@ -45,7 +51,8 @@ put_by-steadily : (words : LoopWords) (variables : Variables) (levels : ℕ) →
 unfolding put_by
 put_by-steadily words variables zero = record { all = λ so_far text. steady-give so_far }
 put_by-steadily words variables (suc levels) = record {
-  all = λ so_far text. over (steady-put_atom words variables (put_by words variables levels) (put_by-steadily words variables levels)) so_far (atoms_of text);
+  all = λ so_far text. over (steady-put_atom words variables (put_by words variables levels) (put_by-steadily words variables levels))
+      so_far (atoms_of text);
 }
 
 steady-put : (words : LoopWords) (variables : Variables) (so_far : SoFar) (text : List ℕ) → Steady (put words variables so_far text)
@@ -74,7 +81,8 @@ steady-store variables name text = bind (steady-bounded text) (λ stored. steady
 
 steady-assign : (variables : Variables) (operator : Operator) (name text : List ℕ) → Steady (assign variables operator name text)
 steady-assign variables operators.Set name text = steady-store variables name text
-steady-assign variables operators.Default name text = either (is_some (text_in variables name)) (steady-give variables) (steady-store variables name text)
+steady-assign variables operators.Default name text = either (is_some (text_in variables name)) (steady-give variables)
+    (steady-store variables name text)
 steady-assign variables operators.Append name text = steady-store variables name (appended (text_in variables name) text)
 steady-assign variables operators.Expand name text = bind (steady-expand_now variables text) (λ found. steady-store variables name found)
 steady-assign variables operators.Shell name text = steady-fail kinds.Shell
@@ -114,23 +122,29 @@ pub steady-put_in : (variables : Variables) (loops : Loops) (text : List ℕ) �
 steady-put_in variables None text = steady-give text
 steady-put_in variables (Some words) text = steady-put_words words variables text
 
-steady-read_again : (variables : Variables) (words : LoopWords) (text : List ℕ) (kind : TextLineKind) → Steady (read_again variables words text kind)
+steady-read_again : (variables : Variables) (words : LoopWords) (text : List ℕ) (kind : TextLineKind)
+    → Steady (read_again variables words text kind)
 steady-read_again variables words text (DirectiveLine word rest) = bind (steady-put_words words variables rest) (λ put. steady-give _)
 steady-read_again variables words text CommandLine = bind (steady-put_words words variables text) (λ put. steady-give _)
 steady-read_again variables words text BlankLine = bind (steady-put_words words variables text) (λ put. steady-give _)
-steady-read_again variables words text (AssignmentLine operator name rest) = bind (steady-put_words words variables text) (λ put. steady-give _)
+steady-read_again variables words text (AssignmentLine operator name rest) =
+    bind (steady-put_words words variables text) (λ put. steady-give _)
 steady-read_again variables words text DependencyLine = bind (steady-put_words words variables text) (λ put. steady-give _)
 steady-read_again variables words text BadLine = bind (steady-put_words words variables text) (λ put. steady-give _)
 
-pub steady-execute_in : (variables : Variables) (loops : Loops) (text : List ℕ) (kind : TextLineKind) → Steady (execute_in variables loops text kind)
+pub steady-execute_in : (variables : Variables) (loops : Loops) (text : List ℕ) (kind : TextLineKind)
+    → Steady (execute_in variables loops text kind)
 steady-execute_in variables None text kind = steady-execute_kind variables kind
 steady-execute_in variables (Some words) text kind = bind (steady-read_again variables words text kind) (steady-execute_kind variables)
 
-steady-perform_kind : (variables : Variables) (loops : Loops) (text : List ℕ) (kind : TextLineKind) → Steady (perform_kind variables loops text kind)
+steady-perform_kind : (variables : Variables) (loops : Loops) (text : List ℕ) (kind : TextLineKind)
+    → Steady (perform_kind variables loops text kind)
 steady-perform_kind variables loops text BlankLine = steady-give _
 steady-perform_kind variables loops text CommandLine = bind steady-pay (λ _. steady-execute_in variables loops text CommandLine)
-steady-perform_kind variables loops text (DirectiveLine word rest) = bind steady-pay (λ _. steady-execute_in variables loops text (DirectiveLine word rest))
-steady-perform_kind variables loops text (AssignmentLine operator name rest) = bind steady-pay (λ _. steady-execute_in variables loops text (AssignmentLine operator name rest))
+steady-perform_kind variables loops text (DirectiveLine word rest) =
+    bind steady-pay (λ _. steady-execute_in variables loops text (DirectiveLine word rest))
+steady-perform_kind variables loops text (AssignmentLine operator name rest) =
+    bind steady-pay (λ _. steady-execute_in variables loops text (AssignmentLine operator name rest))
 steady-perform_kind variables loops text DependencyLine = bind steady-pay (λ _. steady-execute_in variables loops text DependencyLine)
 steady-perform_kind variables loops text BadLine = bind steady-pay (λ _. steady-execute_in variables loops text BadLine)
 

@@ -8,7 +8,9 @@ use Rattle.mk_text.specs.declared.limits.TheConstants.{TEXT_LIMIT}
 use Rattle.mk_mods.specs.Actions.{Symbol, Byte, Whole, Reference, Action, Match, Exclude, Substitute, Change, Suffix}
 use Rattle.mk_mods.specs.Grammar.{modifiers_of}
 use Rattle.mk_env.specs.Texts.{Variables, language_of, text_in}
-use Rattle.mk_env.specs.Expansion.{References, bounded, piece_meaning, where_whole, text_meaning, symbol_meaning, symbols_meaning, made, modified, actions_of, readable, value_meaning, is_among, named_meaning, is_kept, by_name, reference, expand, expand_now, by_inside, inside_meaning, modified_by, variable}
+use Rattle.mk_env.specs.Expansion.{References, bounded, piece_meaning, where_whole, text_meaning, symbol_meaning, symbols_meaning, made}
+use Rattle.mk_env.specs.Expansion.{modified, actions_of, readable, value_meaning, is_among, named_meaning, is_kept, by_name, reference}
+use Rattle.mk_env.specs.Expansion.{expand, expand_now, by_inside, inside_meaning, modified_by, variable}
 use Rattle.mk_eval.proofs.Steady.{Steady, steady-give, steady-fail, steady-choice, steady-pay, bind, either, over}
 
 -- references that are all so
@@ -16,7 +18,8 @@ pub record AreSteady (references : References) : Type 0 where
   pub all : (written name : List ℕ) (modifiers : Option (List ℕ)) → Steady (references written name modifiers)
 
 pub steady-bounded : (text : List ℕ) → Steady (bounded text)
-steady-bounded text = steady-choice (nat_lt TEXT_LIMIT (length text)) (fail kinds.Length) (give text) (steady-fail kinds.Length) (steady-give text)
+steady-bounded text = steady-choice (nat_lt TEXT_LIMIT (length text)) (fail kinds.Length) (give text)
+    (steady-fail kinds.Length) (steady-give text)
 
 pub steady-made : (text : Option (List ℕ)) → Steady (made text)
 steady-made None = steady-fail kinds.Length
@@ -63,18 +66,21 @@ module _ (references : References) (are : AreSteady references) where
   steady-by_inside text atoms [] = are.all text _ _
   steady-by_inside text atoms (b ∷ left) = steady-fail kinds.Reference
 
-module _ (references : List (List ℕ) → References) (are : (active : List (List ℕ)) → AreSteady (references active)) (variables : Variables) (active : List (List ℕ)) where
+module _ (references : List (List ℕ) → References) (are : (active : List (List ℕ)) → AreSteady (references active)) (variables : Variables)
+    (active : List (List ℕ)) where
   pub steady-named : (name : List ℕ) (modifiers : Option (List ℕ)) → Steady (named_meaning references variables active name modifiers)
   steady-named name modifiers =
       bind (either (is_among name active) (steady-fail kinds.Recursive) (steady-readable (actions_of (language_of variables) modifiers)))
       (λ actions. bind (steady-value (references (name ∷ active)) (are (name ∷ active)) (text_in variables name))
       (λ value. over (steady-modified (references active) (are active)) value actions))
 
-  pub steady-by_name : (undefined_gives : _) (written : List ℕ) (modifiers : Option (List ℕ)) (name : List ℕ) → Steady (by_name undefined_gives references variables active written modifiers name)
+  pub steady-by_name : (undefined_gives : _) (written : List ℕ) (modifiers : Option (List ℕ)) (name : List ℕ)
+      → Steady (by_name undefined_gives references variables active written modifiers name)
   steady-by_name undefined_gives written modifiers name =
       either (is_kept undefined_gives (text_in variables name)) (steady-give written) (steady-named name modifiers)
 
-pub are-steady : (undefined_gives : _) (levels : ℕ) (variables : Variables) (active : List (List ℕ)) → AreSteady (reference undefined_gives levels variables active)
+pub are-steady : (undefined_gives : _) (levels : ℕ) (variables : Variables) (active : List (List ℕ))
+    → AreSteady (reference undefined_gives levels variables active)
 unfolding reference
 are-steady undefined_gives zero variables active = record { all = λ written name modifiers. bind steady-pay (λ _. steady-fail kinds.Depth) }
 are-steady undefined_gives (suc levels) variables active = record {
@@ -93,7 +99,8 @@ steady-inside variables text = steady-by_inside _ (are-steady _ 32 variables [])
 
 pub steady-modified_by : (variables : Variables) (modifiers text : List ℕ) → Steady (modified_by variables modifiers text)
 steady-modified_by variables modifiers text =
-    bind (steady-readable (modifiers_of (language_of variables) modifiers)) (λ actions. over (steady-modified _ (are-steady _ 31 variables [])) text actions)
+    bind (steady-readable (modifiers_of (language_of variables) modifiers))
+        (λ actions. over (steady-modified _ (are-steady _ 31 variables [])) text actions)
 
 pub steady-variable : (variables : Variables) (name : List ℕ) → Steady (variable variables name)
 steady-variable variables name = bind steady-pay (λ _. steady-named _ (are-steady _ 31 variables) variables [] name None)

@@ -14,7 +14,8 @@ use Rattle.mk_eval.specs.Steps.{entering_at}
 use Rattle.mk_eval.specs.declared.state.EvalState.{EvalState}
 
 -- work that ends as other work
-pub Gives-same : {R A F M : Type 0} (view : R → A) (result : Result R (Stop F)) (state : M) (whole part : Result (A × M) (F × M)) → whole ≡ part → Gives view result state part → Gives view result state whole
+pub Gives-same : {R A F M : Type 0} (view : R → A) (result : Result R (Stop F)) (state : M) (whole part : Result (A × M) (F × M))
+    → whole ≡ part → Gives view result state part → Gives view result state whole
 Gives-same view result state whole part same gives = subst (λ outcome. Gives view result state outcome) (sym same) gives
 
 -- a branch by its line and its block
@@ -24,7 +25,8 @@ tree-branch branch = fold_out-Branch Tree (LogicalLine × Block) node_step branc
 -- a file, whatever may be included in it
 pub file_meaning-is : (files : FileMap) (makefile : List ℕ) (levels : ℕ) (name bytes : List ℕ) (state : EvalState) (a : Account)
     → file_meaning files makefile levels name bytes state a
-    ≡ execute_read (entering_at files makefile levels) (record { files = files; makefile = makefile; file = name; levels = levels }) (parsed bytes) state a
+    ≡ execute_read (entering_at files makefile levels) (record { files = files; makefile = makefile; file = name; levels = levels })
+        (parsed bytes) state a
 unfolding file_meaning
 file_meaning-is files makefile zero name bytes state a = refl
 file_meaning-is files makefile (suc levels) name bytes state a = refl

@@ -1,5 +1,6 @@
 -- Members read from the left, and those up to where they are closed.
-use Rattle.std.proofs.Common.{◌≡◌, ℕ, ◌≤◌, length, Bool, true, false, ◌||◌, List, [], ◌∷◌, refl, ap, sym, ◌∙◌, subst, arith, inl, inr, Option, Some, None}
+use Rattle.std.proofs.Common.{◌≡◌, ℕ, ◌≤◌, length, Bool, true, false, ◌||◌, List, [], ◌∷◌, refl, ap, sym, ◌∙◌, subst, arith, inl, inr}
+use Rattle.std.proofs.Common.{Option, Some, None}
 use Rattle.std.proofs.Math.Bool.{or-false}
 use Rattle.std.proofs.lemmas.Bool.{cond-true, cond-false, cases_Bool, both_ways, eqb-true, ne_eqb}
 use Rattle.std.specs.Option.{option_map}
@@ -9,7 +10,8 @@ use Rattle.mk_glob.specs.declared.pattern_signs.PatternSign.TheVariants.{Bare, P
 use Rattle.mk_glob.specs.Signs.{character, is_bare, signs_of}
 use Rattle.mk_glob.specs.FirstSigns.{BeginsWithSign}
 use Rattle.mk_glob.proofs.SignLemmas.{signs_of-empty}
-use Rattle.mk_glob.specs.Items.{Range, range_of_one, members, Bracketed, onto_inside, up_to_close, bracketed, bracket, is_within, is_in_some_range}
+use Rattle.mk_glob.specs.Items.{Range, range_of_one, members, Bracketed, onto_inside, up_to_close, bracketed, bracket, is_within}
+use Rattle.mk_glob.specs.Items.{is_in_some_range}
 use Rattle.mk_glob.specs.Brackets.{MakesNoRange, MakesRange, EndsRange, HasBracketMembers, TestsBracket}
 use Rattle.mk_glob.proofs.EndLemmas.{map_some, map_none}
 
@@ -56,7 +58,8 @@ none_is_none : {A : Type 0} (b : A) → None ≡ Some b → ⊥
 none_is_none b e = cc
 
 -- the same where the sign before and one more are read
-second_alone : (low s t : PatternSign) (rest : List PatternSign) (b : Bracketed) → MakesNoRange (s ∷ t ∷ rest) → up_to_close (t ∷ rest) ≡ Some b
+second_alone : (low s t : PatternSign) (rest : List PatternSign) (b : Bracketed) → MakesNoRange (s ∷ t ∷ rest)
+    → up_to_close (t ∷ rest) ≡ Some b
     → members (low ∷ s ∷ b.inside) ≡ range_of_one (character low) ∷ members (s ∷ b.inside)
 second_alone low s t rest b free e =
     let P : Bracketed → Type 0 = λ x. members (low ∷ s ∷ x.inside) ≡ range_of_one (character low) ∷ members (s ∷ x.inside) in
@@ -113,7 +116,8 @@ ranged c found low dash high (Some b) e =
     ∙ ap (λ x. with_answer b x) (or_joined found (is_within (character low) (character high) c) (is_in_some_range (members b.inside) c)))
 
 -- a member is read: a range up to its end, or a sign alone
-pub after_low-range : (c : ℕ) (found : Bool) (low : PatternSign) (rest : List PatternSign) (end : ℕ) (behind : List PatternSign) → MakesRange rest end behind
+pub after_low-range : (c : ℕ) (found : Bool) (low : PatternSign) (rest : List PatternSign) (end : ℕ) (behind : List PatternSign)
+    → MakesRange rest end behind
     → after_low c found low rest ≡ after_end c (found || is_within (character low) end c) behind
 after_low-range c found low rest end behind made =
     let high = made.high in
@@ -165,7 +169,8 @@ found_of p = p.0
 abbrev after_of : Bool × List PatternSign → List PatternSign
 after_of p = p.1
 
-pub HasBracketMembers-from_told : (c : ℕ) (body : List PatternSign) (found : Bool) (behind : List PatternSign) → of_body c body ≡ Some (found, behind)
+pub HasBracketMembers-from_told : (c : ℕ) (body : List PatternSign) (found : Bool) (behind : List PatternSign)
+    → of_body c body ≡ Some (found, behind)
     → HasBracketMembers body c found behind
 HasBracketMembers-from_told c body found behind e =
     let at = map_some (told_all c) (bracketed body) (found, behind) e in record {
@@ -184,7 +189,8 @@ MakesNoRange-last rest dash behind begins e =
     subst MakesNoRange (sym (begins.reads ∙ ap (λ t. dash ∷ t) (signs_of-empty behind e))) tt
 
 -- the same by a character
-pub after_low-end : (c : ℕ) (found : Bool) (low : PatternSign) (rest : List ℕ) (end : ℕ) (behind : List ℕ) → EndsRange (character low) rest end behind
+pub after_low-end : (c : ℕ) (found : Bool) (low : PatternSign) (rest : List ℕ) (end : ℕ) (behind : List ℕ)
+    → EndsRange (character low) rest end behind
     → after_low c found low (signs_of rest) ≡ after_end c (found || is_within (character low) end c) (signs_of behind)
 after_low-end c found low rest end behind (inl free) =
     after_low-alone c found low (signs_of rest) free.0
@@ -196,7 +202,8 @@ pub after_end-empty : (c : ℕ) (found : Bool) (rest : List ℕ) → rest ≡ []
 after_end-empty c found rest e = ap (after_end c found) (signs_of-empty rest e)
 
 -- one more member is read
-pub member_read : (c : ℕ) (body : List PatternSign) (found : Bool) (low : PatternSign) (rest : List ℕ) (first end : ℕ) (behind : List ℕ) (again : ℕ) (within : Bool)
+pub member_read : (c : ℕ) (body : List PatternSign) (found : Bool) (low : PatternSign) (rest : List ℕ) (first end : ℕ) (behind : List ℕ)
+    (again : ℕ) (within : Bool)
     → of_body c body ≡ after_low c found low (signs_of rest) → first ≡ character low → EndsRange first rest end behind
     → again ≡ character low → within ≡ is_within again end c
     → of_body c body ≡ after_end c (found || within) (signs_of behind)

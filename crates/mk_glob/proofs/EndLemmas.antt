@@ -1,12 +1,14 @@
 -- Ends of a pattern: what follows its items, and where no bracket is closed.
-use Rattle.std.proofs.Common.{◌≡◌, ℕ, zero, suc, ◌≤◌, Bool, true, false, eqb, List, [], ◌∷◌, ◌++◌, length, refl, ap, sym, ◌∙◌, subst, arith, inl, inr, length-append, append_assoc, Option, Some, None}
+use Rattle.std.proofs.Common.{◌≡◌, ℕ, zero, suc, ◌≤◌, Bool, true, false, eqb, List, [], ◌∷◌, ◌++◌, length, refl, ap, sym, ◌∙◌, subst, arith}
+use Rattle.std.proofs.Common.{inl, inr, length-append, append_assoc, Option, Some, None}
 use Rattle.std.proofs.lemmas.Bool.{cond-true, cond-false, cond_both, cases_Bool}
 use Rattle.std.specs.Option.{option_map, unwrap_or}
 use Rattle.std.proofs.lemmas.Option.{same_Some}
 use Rattle.mk_glob.specs.declared.pattern_signs.PatternSign.{PatternSign}
 use Rattle.mk_glob.specs.declared.pattern_signs.PatternSign.TheVariants.{Bare, Plain}
 use Rattle.mk_glob.specs.Signs.{is_bare}
-use Rattle.mk_glob.specs.Items.{Bracketed, onto_inside, up_to_close, bracketed, First, closed, bracket, first_at, exactly, first_items, items}
+use Rattle.mk_glob.specs.Items.{Bracketed, onto_inside, up_to_close, bracketed, First, closed, bracket, first_at, exactly, first_items}
+use Rattle.mk_glob.specs.Items.{items}
 use Rattle.mk_glob.specs.Steps.{widths, UnclosedWithin, Learns}
 use Rattle.mk_glob.proofs.SignLemmas.{widths-append, width_positive}
 
@@ -59,7 +61,8 @@ bracketed-ends (first ∷ rest) b e =
     let at : inner.0.behind ≡ b.behind = sym (ap Bracketed.behind inner.2) in
     subst (EndsIn (first ∷ rest)) at (ends_after first rest inner.0.behind (up_to_close-ends rest inner.0 inner.1))
 
-closed-ends : (negated : Bool) (signs : List PatternSign) (f : First) → option_map (closed negated) (bracketed signs) ≡ Some f → EndsIn signs f.behind
+closed-ends : (negated : Bool) (signs : List PatternSign) (f : First) → option_map (closed negated) (bracketed signs) ≡ Some
+    f → EndsIn signs f.behind
 closed-ends negated signs f e =
     let inner = map_some (closed negated) (bracketed signs) f e in
     let at : inner.0.behind ≡ f.behind = sym (ap First.behind inner.2) in
@@ -98,7 +101,8 @@ first_items-enough (suc n) (suc m) (sign ∷ rest) a b =
     ap (λ l. (first_at sign rest).item ∷ l) (first_items-enough n m (first_at sign rest).behind (omega arith) (omega arith))
 
 -- the first item, and those of what follows it
-pub items-cons : (sign : PatternSign) (rest : List PatternSign) → items (sign ∷ rest) ≡ (first_at sign rest).item ∷ items (first_at sign rest).behind
+pub items-cons : (sign : PatternSign) (rest : List PatternSign) → items (sign ∷ rest) ≡ (first_at sign rest).item ∷ items
+    (first_at sign rest).behind
 unfolding items
 items-cons sign rest =
     let shorter = ends_shorter rest (first_at sign rest).behind (first_at-ends sign rest) in
@@ -151,17 +155,20 @@ later_end (x ∷ g) b [] t e h =
     absurd (omega (arith, n, widths-append g b, width_positive x))
 later_end (x ∷ g) b (y ∷ f) t e h = later_end g b f t (tails_same x y (g ++ b) (f ++ t) e) h
 
-pub UnclosedWithin-found : (pattern rest : List PatternSign) → EndsIn pattern rest → bracket rest ≡ None → UnclosedWithin pattern (widths rest)
+pub UnclosedWithin-found : (pattern rest : List PatternSign) → EndsIn pattern rest → bracket rest ≡ None
+    → UnclosedWithin pattern (widths rest)
 UnclosedWithin-found pattern rest ends none = λ front part e h.
     let later = later_end ends.front rest front part (sym ends.joins ∙ e) h in
     bracket-none_after later.front part (ap bracket (sym later.joins) ∙ none)
 
-pub UnclosedWithin-after : (pattern rest : List PatternSign) (n : ℕ) → EndsIn pattern rest → UnclosedWithin pattern n → UnclosedWithin rest n
+pub UnclosedWithin-after : (pattern rest : List PatternSign) (n : ℕ) → EndsIn pattern rest
+    → UnclosedWithin pattern n → UnclosedWithin rest n
 UnclosedWithin-after pattern rest n ends known = λ front part e h.
     known (ends.front ++ front) part (ends.joins ∙ ap (λ t. ends.front ++ t) e ∙ sym (append_assoc ends.front front part)) h
 
 -- what is learnt at an end holds for the whole
-pub UnclosedWithin-learnt : (pattern rest : List PatternSign) (old new : ℕ) → EndsIn pattern rest → Learns rest old new → UnclosedWithin pattern old
+pub UnclosedWithin-learnt : (pattern rest : List PatternSign) (old new : ℕ) → EndsIn pattern rest → Learns rest old new
+    → UnclosedWithin pattern old
     → UnclosedWithin pattern new
 UnclosedWithin-learnt pattern rest old new ends (inl same) known = subst (UnclosedWithin pattern) (sym same) known
 UnclosedWithin-learnt pattern rest old new ends (inr found) known =

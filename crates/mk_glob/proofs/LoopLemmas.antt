@@ -1,5 +1,6 @@
 -- A word matched item by item: what is left, and the last run, to which the matching goes back.
-use Rattle.std.proofs.Common.{◌≡◌, ℕ, suc, ◌+◌, ◌*◌, ◌<◌, ◌≤◌, Bool, true, false, ◌&&◌, ◌||◌, List, [], ◌∷◌, length, refl, ap, sym, ◌∙◌, subst, arith, Option, Some, None, MatchOption}
+use Rattle.std.proofs.Common.{◌≡◌, ℕ, suc, ◌+◌, ◌*◌, ◌<◌, ◌≤◌, Bool, true, false, ◌&&◌, ◌||◌, List, [], ◌∷◌, length, refl, ap, sym, ◌∙◌}
+use Rattle.std.proofs.Common.{subst, arith, Option, Some, None, MatchOption}
 use Rattle.std.proofs.Math.Bool.{or-false}
 use Rattle.std.proofs.Math.Nat.{mul-le-mul_right}
 use Rattle.std.proofs.lemmas.Bool.{or_right}
@@ -89,7 +90,8 @@ falls_second a b n p q h k =
 within_sign : (whole here behind : List PatternSign) (sign : PatternSign) → EndsIn whole here → here ≡ sign ∷ behind → EndsIn whole behind
 within_sign whole here behind sign within e = ends_along whole here behind within record { front = sign ∷ []; joins = e }
 
-within_first : (whole here : List PatternSign) (sign : PatternSign) (more : List PatternSign) (first : First) → EndsIn whole here → here ≡ sign ∷ more
+within_first : (whole here : List PatternSign) (sign : PatternSign) (more : List PatternSign) (first : First)
+    → EndsIn whole here → here ≡ sign ∷ more
     → first_at sign more ≡ first → EndsIn whole first.behind
 within_first whole here sign more first within e stands =
     let later : EndsIn more first.behind = subst (λ f. EndsIn more (First.behind f)) stands (first_at-ends sign more) in
@@ -205,12 +207,14 @@ Goes-more pattern word rest None unclosed learnt further goes learns refused mor
 Goes-more pattern word rest (Some last) unclosed learnt further goes learns refused more =
     Goes-further pattern word rest last unclosed learnt further goes learns refused more
 
-pub cut_where_fits : (pattern word : List ℕ) (found : Bool) → found ≡ fits pattern word → IsTrue found ↔ Fits (items_of pattern) (chars word)
+pub cut_where_fits : (pattern word : List ℕ) (found : Bool) → found ≡ fits pattern word
+    → IsTrue found ↔ Fits (items_of pattern) (chars word)
 cut_where_fits pattern word found e =
     subst (λ b. IsTrue b ↔ Fits (items_of pattern) (chars word)) (sym e) (fits_where_cut pattern word)
 
 -- what is left falls
-pub left-run : (pattern word : List ℕ) (rest : Rest) (back : Option Rest) (unclosed : ℕ) (behind : Rest) → Goes pattern word rest back unclosed
+pub left-run : (pattern word : List ℕ) (rest : Rest) (back : Option Rest) (unclosed : ℕ) (behind : Rest)
+    → Goes pattern word rest back unclosed
     → IsAfterRun rest behind → left pattern word behind (Some behind) < left pattern word rest back
 left-run pattern word rest back unclosed behind goes run =
     let n = ap length run.pattern in
@@ -218,7 +222,8 @@ left-run pattern word rest back unclosed behind goes run =
     falls_first (length (chars behind.word.now)) (room word back) (length (signs_of pattern)) (length (signs_of behind.pattern.now))
     (length (signs_of rest.pattern.now)) m (omega arith)
 
-pub left-one : (pattern word : List ℕ) (rest : Rest) (back : Option Rest) (unclosed : ℕ) (behind : Rest) → Goes pattern word rest back unclosed
+pub left-one : (pattern word : List ℕ) (rest : Rest) (back : Option Rest) (unclosed : ℕ) (behind : Rest)
+    → Goes pattern word rest back unclosed
     → IsAfterOne rest behind → left pattern word behind back < left pattern word rest back
 left-one pattern word rest back unclosed behind goes one =
     let n = ap length one.pattern in
@@ -236,7 +241,8 @@ left-further pattern word rest back further unclosed goes one =
     falls_second (length (chars further.word.now)) (length (chars back.word.now)) (length (signs_of pattern))
     (length (signs_of further.pattern.now)) (length (signs_of rest.pattern.now)) (omega arith) m
 
-pub left-more : (pattern word : List ℕ) (rest : Rest) (back : Option Rest) (further : Rest) (unclosed : ℕ) → Goes pattern word rest back unclosed
+pub left-more : (pattern word : List ℕ) (rest : Rest) (back : Option Rest) (further : Rest) (unclosed : ℕ)
+    → Goes pattern word rest back unclosed
     → TakesMore back (Some further) → left pattern word further (Some further) < left pattern word rest back
 left-more pattern word rest None further unclosed goes more = cc
 left-more pattern word rest (Some last) further unclosed goes more = left-further pattern word rest last further unclosed goes more

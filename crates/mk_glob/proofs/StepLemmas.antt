@@ -1,5 +1,6 @@
 -- The first item of a pattern, and what it does with a character.
-use Rattle.std.proofs.Common.{◌≡◌, ℕ, ◌≤◌, Bool, true, false, ◌&&◌, ◌||◌, eqb, leb, List, [], ◌∷◌, length, refl, ap, sym, ◌∙◌, arith, inl, inr, Option, Some, None}
+use Rattle.std.proofs.Common.{◌≡◌, ℕ, ◌≤◌, Bool, true, false, ◌&&◌, ◌||◌, eqb, leb, List, [], ◌∷◌, length, refl, ap, sym, ◌∙◌, arith, inl}
+use Rattle.std.proofs.Common.{inr, Option, Some, None}
 use Rattle.std.proofs.lemmas.Bool.{cond-true, cond-false, cond_both, cases_Bool, eqb-true, both_ways, and_left, true≢false}
 use Rattle.std.proofs.lemmas.Bool.Decides.{nat_tests}
 use Rattle.std.proofs.Math.Bool.{or-false}
@@ -8,7 +9,8 @@ use Rattle.std.specs.Str.{IsUtf8, chars}
 use Rattle.mk_glob.specs.declared.pattern_signs.PatternSign.{PatternSign}
 use Rattle.mk_glob.specs.declared.pattern_signs.PatternSign.TheVariants.{Bare, Plain}
 use Rattle.mk_glob.specs.Signs.{character, is_bare, signs_of}
-use Rattle.mk_glob.specs.Items.{Range, range_of_one, Item, one_of, exactly, First, members, Bracketed, bracketed, closed, bracket, first_at, items, items_of, is_within, admits}
+use Rattle.mk_glob.specs.Items.{Range, range_of_one, Item, one_of, exactly, First, members, Bracketed, bracketed, closed, bracket, first_at}
+use Rattle.mk_glob.specs.Items.{items, items_of, is_within, admits}
 use Rattle.mk_glob.specs.Matcher.{fits_items, fits}
 use Rattle.mk_glob.specs.Steps.{widths, Finds, Learns, UnclosedWithin, TellsOne}
 use Rattle.mk_glob.proofs.SignLemmas.{widths-signs_of, signs_of-empty}
@@ -19,7 +21,8 @@ bare_sign n (Bare c) e = ap Bare (eqb-true c n e)
 bare_sign n (Plain c) e = absurd (true≢false (sym e))
 
 -- a sign that is neither `*` nor `?` and opens no bracket is itself
-first_at-exactly : (sign : PatternSign) (rest : List PatternSign) → is_bare 42 sign ≡ false → is_bare 63 sign ≡ false → (is_bare 91 sign ≡ true → bracket rest ≡ None)
+first_at-exactly : (sign : PatternSign) (rest : List PatternSign) → is_bare 42 sign ≡ false → is_bare 63 sign ≡ false
+    → (is_bare 91 sign ≡ true → bracket rest ≡ None)
     → first_at sign rest ≡ record { item = exactly (character sign); behind = rest }
 first_at-exactly (Plain c) rest run one opens = refl
 first_at-exactly (Bare c) rest run one opens =
@@ -41,7 +44,8 @@ TellsOne-exactly sign rest c own run one opens e = record {
 }
 
 -- where no more bytes are left than are known to hold no closed bracket
-pub bracket-known : (behind : List ℕ) (unclosed : ℕ) → IsUtf8 behind → (widths (signs_of behind) ≤ unclosed → bracket (signs_of behind) ≡ None)
+pub bracket-known : (behind : List ℕ) (unclosed : ℕ) → IsUtf8 behind
+    → (widths (signs_of behind) ≤ unclosed → bracket (signs_of behind) ≡ None)
     → length behind ≤ unclosed → bracket (signs_of behind) ≡ None
 bracket-known behind unclosed utf8 known h = let n = widths-signs_of behind utf8 in known (omega arith)
 
@@ -101,7 +105,8 @@ first_at_is_one (Bare c) rest e =
     (λ _. cond_both (eqb c 63) _ _ P (λ _. record { negated = true; ranges = []; is = refl })
     (λ _. cond_both (eqb c 91) _ _ P (λ _. bracket_or_is_one rest c (bracket rest) refl) (λ _. exactly_is_one c)))
 
-pub fits-word_over : (pattern word : List ℕ) (sign : PatternSign) (more : List PatternSign) → signs_of pattern ≡ sign ∷ more → is_bare 42 sign ≡ false
+pub fits-word_over : (pattern word : List ℕ) (sign : PatternSign) (more : List PatternSign) → signs_of pattern ≡ sign ∷ more
+    → is_bare 42 sign ≡ false
     → chars word ≡ [] → fits pattern word ≡ false
 fits-word_over pattern word sign more reads run over =
     let one = first_at_is_one sign more run in
@@ -110,7 +115,8 @@ fits-word_over pattern word sign more reads run over =
     ∙ ap (λ i. fits_items (i ∷ items (first_at sign more).behind) []) one.is
 
 -- a character that the first item refuses
-pub fits-refused : (pattern word : List ℕ) (sign : PatternSign) (more : List PatternSign) (c : ℕ) (rest : List ℕ) (allowed : Bool) (behind : List PatternSign)
+pub fits-refused : (pattern word : List ℕ) (sign : PatternSign) (more : List PatternSign) (c : ℕ) (rest : List ℕ) (allowed : Bool)
+    (behind : List PatternSign)
     → signs_of pattern ≡ sign ∷ more → chars word ≡ c ∷ rest → allowed ≡ false → TellsOne sign more c allowed behind
     → fits pattern word ≡ false
 fits-refused pattern word sign more c rest allowed behind reads begins refused tells =
@@ -122,7 +128,8 @@ pub known-after : (pattern : List PatternSign) (sign : PatternSign) (more : List
     → UnclosedWithin pattern unclosed → widths more ≤ unclosed → bracket more ≡ None
 known-after pattern sign more unclosed reads known h = known (sign ∷ []) more reads h
 
-pub Learns-after : (pattern : List PatternSign) (sign : PatternSign) (more : List PatternSign) (old new : ℕ) → pattern ≡ sign ∷ more → Finds more old new
+pub Learns-after : (pattern : List PatternSign) (sign : PatternSign) (more : List PatternSign) (old new : ℕ)
+    → pattern ≡ sign ∷ more → Finds more old new
     → Learns pattern old new
 Learns-after pattern sign more old new reads (inl same) = inl same
 Learns-after pattern sign more old new reads (inr found) = inr (sign ∷ [], more, reads, found.0, found.1)

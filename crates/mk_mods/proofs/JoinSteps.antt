@@ -1,5 +1,6 @@
 -- Words joined one after another.
-use Rattle.std.proofs.Common.{◌≡◌, Bool, true, false, ℕ, ◌+◌, ◌<◌, ◌≤◌, List, [], ◌∷◌, ◌++◌, length, get_or, drop, map, refl, sym, ap, subst, ◌∙◌, arith, append_assoc, length-append, Option, Some, None}
+use Rattle.std.proofs.Common.{◌≡◌, Bool, true, false, ℕ, ◌+◌, ◌<◌, ◌≤◌, List, [], ◌∷◌, ◌++◌, length, get_or, drop, map, refl, sym, ap}
+use Rattle.std.proofs.Common.{subst, ◌∙◌, arith, append_assoc, length-append, Option, Some, None}
 use Rattle.std.specs.Prelude.{filter}
 use Rattle.std.specs.List.{join_with_byte}
 use Rattle.std.proofs.lemmas.List.{drop_more, drop-map}
@@ -54,12 +55,14 @@ pub record Joining (limit : ℕ) (whole made : List ℕ) (rest : List (List ℕ)
 pub joining-none : (limit : ℕ) (words : List (List ℕ)) → Joining limit (joined words) [] words
 joining-none limit words = record { small = omega arith; goes = onto-joined words }
 
-pub joining-more : (limit : ℕ) (whole made made' word : List ℕ) (rest later : List (List ℕ)) → Joining limit whole made rest → rest ≡ word ∷ later
+pub joining-more : (limit : ℕ) (whole made made' word : List ℕ) (rest later : List (List ℕ))
+    → Joining limit whole made rest → rest ≡ word ∷ later
     → length made' ≤ limit → made' ≡ with_word made word → Joining limit whole made' later
 joining-more limit whole made made' word rest later so_far e small is =
     record { small = small; goes = ap (λ m. onto m later) is ∙ sym (ap (onto made) e) ∙ so_far.goes }
 
-pub joining-same : (limit : ℕ) (whole made : List ℕ) (rest later : List (List ℕ)) → Joining limit whole made rest → rest ≡ later → Joining limit whole made later
+pub joining-same : (limit : ℕ) (whole made : List ℕ) (rest later : List (List ℕ)) → Joining limit whole made rest → rest ≡ later
+    → Joining limit whole made later
 joining-same limit whole made rest later so_far e = record { small = so_far.small; goes = sym (ap (onto made) e) ∙ so_far.goes }
 
 pub joining-over : (limit : ℕ) (whole made word : List ℕ) (rest later : List (List ℕ)) → Joining limit whole made rest → rest ≡ word ∷ later
@@ -68,7 +71,8 @@ joining-over limit whole made word rest later so_far e =
     omega (arith, onto-grows (with_word made word) later, ap length (sym (ap (onto made) e) ∙ so_far.goes))
 
 -- the next word, by its place
-pub next-word : (text : List ℕ) (spans : List Span) (words : List (List ℕ)) (at : ℕ) (d : Span) → map (span_text text) spans ≡ words → at < length spans
+pub next-word : (text : List ℕ) (spans : List Span) (words : List (List ℕ)) (at : ℕ) (d : Span)
+    → map (span_text text) spans ≡ words → at < length spans
     → drop at words ≡ span_text text (get_or spans at d) ∷ drop (at + 1) words
 next-word text spans words at d is near =
     ap (drop at) (sym is) ∙ drop-map (span_text text) at spans ∙ ap (map (span_text text)) (drop_more spans at d near)
@@ -89,7 +93,8 @@ keeps_word-is false false = refl
 pub keeps_word-by : (found matching is : Bool) → found ≡ is → keeps_word matching is ≡ beq found matching
 keeps_word-by found matching is e = keeps_word-is matching is ∙ ap (λ b. beq b matching) (sym e)
 
-pub overlong-of : (made : Option (List ℕ)) (text : List ℕ) (fault : TextFault) → made ≡ Some text → IsTooLong text fault → IsOverlong made fault
+pub overlong-of : (made : Option (List ℕ)) (text : List ℕ) (fault : TextFault) → made ≡ Some text
+    → IsTooLong text fault → IsOverlong made fault
 overlong-of made text fault e long = subst (λ o. IsOverlong o fault) (sym e) long
 
 with_word-covers : (made word : List ℕ) → length word ≤ length (with_word made word)
@@ -97,13 +102,15 @@ with_word-covers made [] = omega arith
 with_word-covers [] (b ∷ word) = omega arith
 with_word-covers (m ∷ made) (b ∷ word) = omega (arith, length-append (m ∷ made) (32 ∷ b ∷ word))
 
-pub joining-covers : (limit : ℕ) (whole made word : List ℕ) (rest later : List (List ℕ)) → Joining limit whole made rest → rest ≡ word ∷ later
+pub joining-covers : (limit : ℕ) (whole made word : List ℕ) (rest later : List (List ℕ))
+    → Joining limit whole made rest → rest ≡ word ∷ later
     → length word ≤ length whole
 joining-covers limit whole made word rest later so_far e =
     omega (arith, with_word-covers made word, joining-over limit whole made word rest later so_far e)
 
 -- a whole that a text which wasn't made is part of
-pub overlong-whole : (made : Option (List ℕ)) (whole : List ℕ) (fault : TextFault) → ((text : List ℕ) → made ≡ Some text → length text ≤ length whole)
+pub overlong-whole : (made : Option (List ℕ)) (whole : List ℕ) (fault : TextFault)
+    → ((text : List ℕ) → made ≡ Some text → length text ≤ length whole)
     → IsOverlong made fault → IsTooLong whole fault
 overlong-whole None whole fault part over = subst (IsTooLong whole) (sym over) tt
 overlong-whole (Some text) whole fault part over = too_long-over text whole fault (part text refl) over

@@ -1,5 +1,6 @@
 -- What `rsplit_once` at a character gives: what is around its last place.
-use Rattle.std.proofs.Common.{◌≡◌, ◌≢◌, ℕ, suc, ◌<◌, eqb, true, false, eqb-true, List, [], ◌∷◌, ◌++◌, length, get_or, take, drop, Option, Some, None, MatchOption, Bor, refl, sym, ap, ◌∙◌, subst, arith, ne_eqb, eq-eqb, take-append-drop}
+use Rattle.std.proofs.Common.{◌≡◌, ◌≢◌, ℕ, suc, ◌<◌, eqb, true, false, eqb-true, List, [], ◌∷◌, ◌++◌, length, get_or, take, drop, Option}
+use Rattle.std.proofs.Common.{Some, None, MatchOption, Bor, refl, sym, ap, ◌∙◌, subst, arith, ne_eqb, eq-eqb, take-append-drop}
 use Rattle.std.proofs.lemmas.Bool.{cond-true, cond-false, true≢false}
 use Rattle.std.proofs.lemmas.Str.Pattern.{NoCharPasses-char, drop_at_char}
 use Rattle.std.specs.Str.{NoCharPasses}
@@ -18,7 +19,8 @@ around_last-lacks byte (b ∷ rest) none =
 
 pub around_last-at : (byte : ℕ) (front back : List ℕ) → Lacks byte back → around_last byte (front ++ byte ∷ back) ≡ Some (front, back)
 around_last-at byte [] back none =
-    ap (around_here byte byte back) (around_last-lacks byte back none) ∙ cond-true (eqb byte byte) (Some ([], back)) None (eq-eqb byte byte refl)
+    ap (around_here byte byte back) (around_last-lacks byte back none) ∙ cond-true (eqb byte byte) (Some ([], back))
+        None (eq-eqb byte byte refl)
 around_last-at byte (f ∷ front) back none = ap (around_here byte f (front ++ byte ∷ back)) (around_last-at byte front back none)
 
 -- the clause of `rsplit_once`

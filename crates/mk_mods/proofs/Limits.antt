@@ -1,5 +1,6 @@
 -- Texts within the limit.
-use Rattle.std.proofs.Common.{◌≡◌, ℕ, ◌<◌, ◌≤◌, leb, List, [], length, Option, Some, None, Result, Ok, Err, IfOk, IfErr, String, string_bytes, sym, ap, ◌∙◌}
+use Rattle.std.proofs.Common.{◌≡◌, ℕ, ◌<◌, ◌≤◌, leb, List, [], length, Option, Some, None, Result, Ok, Err, IfOk, IfErr, String}
+use Rattle.std.proofs.Common.{string_bytes, sym, ap, ◌∙◌}
 use Rattle.std.specs.Option.{option_and_then, option_map}
 use Rattle.std.specs.declared.alloc.Global.{Global}
 use Rattle.std.proofs.lemmas.Bool.{cond-true, cond-false, le-leb, lt-leb}
@@ -25,7 +26,8 @@ pub within-unmade : (text : List ℕ) (fault : TextFault) → IsTooLong text fau
 within-unmade text faults.Length long = within-long text long
 within-unmade text (faults.Memory _) long = tt
 
-pub ok-within : (r : Result (String Global) TextFault) (text : List ℕ) → IfOk r (IsMadeText text) → IfOk r (λ made. within_limit text ≡ Some (string_bytes made))
+pub ok-within : (r : Result (String Global) TextFault) (text : List ℕ) → IfOk r (IsMadeText text)
+    → IfOk r (λ made. within_limit text ≡ Some (string_bytes made))
 ok-within (Ok made) text is = within-made text made is
 ok-within (Err fault) text is = tt
 
@@ -34,14 +36,17 @@ err-within (Ok made) text long = tt
 err-within (Err fault) text long = within-unmade text fault long
 
 -- a substitution by texts that were made
-pub substituted-by : (s : Replacement) (words : List (List ℕ)) (old new : List ℕ) → within_limit (text_of [] s.old) ≡ Some old → within_limit (text_of old s.new) ≡ Some new
-    → option_and_then (λ changed. within_limit (joined changed)) (words_substituted s words) ≡ within_limit (joined (substituted s old new words))
+pub substituted-by : (s : Replacement) (words : List (List ℕ)) (old new : List ℕ) → within_limit (text_of [] s.old) ≡ Some old
+    → within_limit (text_of old s.new) ≡ Some new
+    → option_and_then (λ changed. within_limit (joined changed)) (words_substituted s words) ≡ within_limit
+        (joined (substituted s old new words))
 substituted-by s words old new is_old is_new =
     let after : Option (List (List ℕ)) → Option (List ℕ) = option_and_then (λ changed. within_limit (joined changed)) in
     ap (λ o. after (option_and_then (λ old. option_map (λ new. substituted s old new words) (within_limit (text_of old s.new))) o)) is_old
     ∙ ap (λ o. after (option_map (λ new. substituted s old new words) o)) is_new
 
-pub substituted-unmade : (s : Replacement) (words : List (List ℕ)) (old : List ℕ) (fault : TextFault) → within_limit (text_of [] s.old) ≡ Some old → IsTooLong (text_of old s.new) fault
+pub substituted-unmade : (s : Replacement) (words : List (List ℕ)) (old : List ℕ) (fault : TextFault)
+    → within_limit (text_of [] s.old) ≡ Some old → IsTooLong (text_of old s.new) fault
     → IsUnmade (option_and_then (λ changed. within_limit (joined changed)) (words_substituted s words)) fault
 substituted-unmade s words old faults.Length is_old long =
     let after : Option (List (List ℕ)) → Option (List ℕ) = option_and_then (λ changed. within_limit (joined changed)) in

@@ -15,5 +15,6 @@ where_left (b ∷ left) marks some = refl
 
 pub marks-unread : (text : List ℕ) (fault : PiecesFault) → IsFaultOf text fault → IsUnread (marks_of text) (unread_by fault)
 unfolding marks_of
-marks-unread text (faults.Unclosed at) is = where_left (left_of text) (flat_map piece_marks (pieces_of (atoms_of text))) (omega (arith, is.inside, ap length is.left, length-drop at text))
+marks-unread text (faults.Unclosed at) is = where_left (left_of text) (flat_map piece_marks (pieces_of (atoms_of text)))
+    (omega (arith, is.inside, ap length is.left, length-drop at text))
 marks-unread text (faults.Memory _) is = tt

@@ -1,5 +1,7 @@
 -- Old texts in words, and new ones in their place.
-use Rattle.std.proofs.Common.{◌≡◌, ◌≢◌, ℕ, zero, ◌-◌, ◌+◌, ◌<◌, Bool, true, false, eqb, List, [], ◌∷◌, ◌++◌, length, take, drop, Option, Some, None, option_map, MatchOption, Bor, IsUtf8, refl, sym, ap, subst, ◌∙◌, arith, length-append, take_at, drop_at, take-append-drop}
+use Rattle.std.proofs.Common.{◌≡◌, ◌≢◌, ℕ, zero, ◌-◌, ◌+◌, ◌<◌, Bool, true, false, eqb, List, [], ◌∷◌, ◌++◌, length, take, drop, Option}
+use Rattle.std.proofs.Common.{Some, None, option_map, MatchOption, Bor, IsUtf8, refl, sym, ap, subst, ◌∙◌, arith, length-append, take_at}
+use Rattle.std.proofs.Common.{drop_at, take-append-drop}
 use Rattle.std.specs.List.{starts_with, ends_with}
 use Rattle.std.specs.Cmp.Lexicographic.{pointwise}
 use Rattle.std.specs.Str.Pattern.{FindsText, FindsTextPrefix, FindsTextSuffix, SplitsAroundMatch, StripsPrefix, StripsSuffix}
@@ -20,7 +22,8 @@ starts-lacks old text none = sym (starts_text false old text none)
 
 pub ends-append : (front old : List ℕ) → ends_with eqb (front ++ old) old ≡ true
 ends-append front old =
-    ap (pointwise eqb old) (drop_at front old (length (front ++ old) - length old) (omega (arith, length-append front old))) ∙ (bytes_eq-Decides old old).1 refl
+    ap (pointwise eqb old) (drop_at front old (length (front ++ old) - length old) (omega (arith, length-append front old)))
+        ∙ (bytes_eq-Decides old old).1 refl
 
 pub ends-lacks : (old text : List ℕ) → ((front : List ℕ) → text ≢ front ++ old) → ends_with eqb text old ≡ false
 ends-lacks old text none = sym (ends_text false old text none)
@@ -28,7 +31,8 @@ ends-lacks old text none = sym (ends_text false old text none)
 pub first_replaced-none : (old new word : List ℕ) → IsNowhere old word → first_replaced old new word ≡ None
 first_replaced-none old new [] none = refl
 first_replaced-none old new (b ∷ rest) none =
-    cond-false (starts_with eqb (b ∷ rest) old) (Some (new ++ drop (length old) (b ∷ rest))) (option_map (λ made. b ∷ made) (first_replaced old new rest))
+    cond-false (starts_with eqb (b ∷ rest) old) (Some (new ++ drop (length old) (b ∷ rest)))
+        (option_map (λ made. b ∷ made) (first_replaced old new rest))
     (starts-lacks old (b ∷ rest) (λ behind e. none [] behind e))
     ∙ ap (option_map (λ made. b ∷ made)) (first_replaced-none old new rest (λ front behind e. none (b ∷ front) behind (ap (λ l. b ∷ l) e)))
 
@@ -84,7 +88,8 @@ pub cut-of : (old word : List ℕ) (r : Option (Bor (List ℕ) × Bor (List ℕ)
     → MatchOption r (FindsText old word None) (λ x. SplitsAroundMatch (FindsText old) word x.0.now x.1.now)
     → MatchOption r (IsNowhere old word) (λ x. FirstCut old word x.0.now x.1.now)
 cut-of old word None none = λ front behind e.
-    none (length front) (omega (arith, ap length e, length-append front (old ++ behind))) behind (ap (drop (length front)) e ∙ drop_at front (old ++ behind) (length front) refl)
+    none (length front) (omega (arith, ap length e, length-append front (old ++ behind))) behind (ap (drop (length front)) e
+        ∙ drop_at front (old ++ behind) (length front) refl)
 cut-of old word (Some (front, behind)) (i, j, finds, is_front, is_after, le, len_front, len_after) = record {
   whole = sym (take-append-drop i word) ∙ ap (λ l. take i word ++ l) finds.1.split ∙ ap (λ l. l ++ (old ++ drop j word)) (sym is_front)
       ∙ ap (λ l. front.now ++ (old ++ l)) (sym is_after);
@@ -92,7 +97,8 @@ cut-of old word (Some (front, behind)) (i, j, finds, is_front, is_after, le, len
 }
 
 -- what follows an old text is text
-pub after-utf8 : (old word : List ℕ) (front behind : Bor (List ℕ)) → SplitsAroundMatch (FindsText old) word front.now behind.now → IsUtf8 word → IsUtf8 behind.now
+pub after-utf8 : (old word : List ℕ) (front behind : Bor (List ℕ)) → SplitsAroundMatch (FindsText old) word front.now behind.now
+    → IsUtf8 word → IsUtf8 behind.now
 after-utf8 old word front behind (i, j, finds, is_front, is_after, le, len_front, len_after) text =
     subst IsUtf8 (ap (λ n. drop n word) (sym finds.1.ends) ∙ sym is_after) (IsUtf8-drop word (i + length old) text finds.1.after)
 
@@ -101,20 +107,24 @@ pub all_replaced-cut : (old new word front behind : List ℕ) → 0 < length old
     → all_replaced old new zero word ≡ front ++ (new ++ all_replaced old new zero behind)
 all_replaced-cut [] new word front behind some cut = absurd (omega arith)
 all_replaced-cut (o ∷ old) new word front behind some cut =
-    ap (all_replaced (o ∷ old) new zero) cut.whole ∙ all_replaced-at o old new front behind (subst (λ w. Least (o ∷ old) w front) cut.whole cut.least)
+    ap (all_replaced (o ∷ old) new zero) cut.whole ∙ all_replaced-at o old new front behind
+        (subst (λ w. Least (o ∷ old) w front) cut.whole cut.least)
 
 first_replaced-cut : (o : ℕ) (old new word front behind : List ℕ) → FirstCut (o ∷ old) word front behind
     → first_replaced (o ∷ old) new word ≡ Some (front ++ (new ++ behind))
 first_replaced-cut o old new word front behind cut =
-    ap (first_replaced (o ∷ old) new) cut.whole ∙ first_replaced-at o old new front behind (subst (λ w. Least (o ∷ old) w front) cut.whole cut.least)
+    ap (first_replaced (o ∷ old) new) cut.whole ∙ first_replaced-at o old new front behind
+        (subst (λ w. Least (o ∷ old) w front) cut.whole cut.least)
 
-pub first-cut : (old new word front behind : List ℕ) → 0 < length old → FirstCut old word front behind → first_replaced old new word ≡ Some (front ++ (new ++ behind))
+pub first-cut : (old new word front behind : List ℕ) → 0 < length old → FirstCut old word front behind → first_replaced old new word ≡ Some
+    (front ++ (new ++ behind))
 first-cut [] new word front behind some cut = absurd (omega arith)
 first-cut (o ∷ old) new word front behind some cut = first_replaced-cut o old new word front behind cut
 
 pub somewhere-none : (every : Bool) (old new word : List ℕ) → IsNowhere old word → somewhere_replaced every old new word ≡ None
 somewhere-none every [] new word none = refl
-somewhere-none true (o ∷ old) new word none = ap (option_map (λ _. all_replaced (o ∷ old) new zero word)) (first_replaced-none (o ∷ old) new word none)
+somewhere-none true (o ∷ old) new word none = ap (option_map (λ _. all_replaced (o ∷ old) new zero word))
+    (first_replaced-none (o ∷ old) new word none)
 somewhere-none false (o ∷ old) new word none = first_replaced-none (o ∷ old) new word none
 
 pub somewhere-all : (every : Bool) (old new word front behind : List ℕ) → every ≡ true → 0 < length old → FirstCut old word front behind
@@ -147,7 +157,8 @@ pub replaced-ends : (s : Replacement) (old new word : List ℕ) (r : Option (Bor
 replaced-ends s old new word None starts ends none = rw (starts, ends, ends-lacks old word none)
 replaced-ends s old new word (Some front) starts ends (n, finds, is_front, len) =
     let whole : word ≡ front.now ++ old = finds.1 ∙ ap (λ l. l ++ old) (sym is_front) in
-    rw (starts, ends, whole, ends-append front.now old, take_at front.now old (length (front.now ++ old) - length old) (omega (arith, length-append front.now old)))
+    rw (starts, ends, whole, ends-append front.now old, take_at front.now old (length (front.now ++ old) - length old)
+        (omega (arith, length-append front.now old)))
 
 -- a word that ends in the old text, and one that doesn't
 pub suffix-some : (old new word front : List ℕ) → StripsSuffix (FindsTextSuffix old) word front → with_suffix old new word ≡ front ++ new
@@ -162,7 +173,8 @@ suffix-none old new word none = rw (ends-lacks old word none)
 pub all_replaced-end : (old new made rest whole : List ℕ) (r : Option (Bor (List ℕ) × Bor (List ℕ))) → r ≡ None
     → MatchOption r (FindsText old rest None) (λ x. SplitsAroundMatch (FindsText old) rest x.0.now x.1.now)
     → made ++ all_replaced old new zero rest ≡ whole → made ++ rest ≡ whole
-all_replaced-end old new made rest whole None e none goes = ap (λ l. made ++ l) (sym (all_replaced-none old new rest (cut-of old rest None none))) ∙ goes
+all_replaced-end old new made rest whole None e none goes = ap (λ l. made ++ l)
+    (sym (all_replaced-none old new rest (cut-of old rest None none))) ∙ goes
 all_replaced-end old new made rest whole (Some x) e none goes = absurd (cc)
 
 pub some-bytes : (text : List ℕ) → eqb (length text) 0 ≡ false → 0 < length text

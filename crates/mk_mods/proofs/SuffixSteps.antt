@@ -25,5 +25,6 @@ cut-here c whole front mark rest marks so_far next is =
     ∙ ap (cut_after front) (cond-true (is_char c mark) ([], mark ∷ marks) (mark ∷ later.0, later.1) is)
     ∙ ap₂ (λ l m. (l, m)) (append-nil front) (sym next)
 
-pub cut-end : (c : ℕ) (whole : List TextMark × List TextMark) (front rest : List TextMark) → whole ≡ cut_after front (cut_before c rest) → rest ≡ [] → whole ≡ (front, [])
+pub cut-end : (c : ℕ) (whole : List TextMark × List TextMark) (front rest : List TextMark) → whole ≡ cut_after front (cut_before c rest)
+    → rest ≡ [] → whole ≡ (front, [])
 cut-end c whole front rest so_far none = so_far ∙ ap (λ l. cut_after front (cut_before c l)) none ∙ ap (λ l. (l, [])) (append-nil front)

@@ -20,14 +20,16 @@ begins old all directory = record { asked = []; state = noted-nothing old; rest 
 
 -- the candidates of the trees, the first tree's first
 module _ (files : FileMap) (tree : List ℕ) (trees : List (List ℕ)) (directory : List ℕ) where
-  one_candidate : (name : List ℕ) → result_ok (resolved (makefile_in tree directory)) ≡ Some name → candidates (tree ∷ trees) directory ≡ name ∷ candidates trees directory
+  one_candidate : (name : List ℕ) → result_ok (resolved (makefile_in tree directory)) ≡ Some name → candidates (tree ∷ trees) directory ≡
+      name ∷ candidates trees directory
   one_candidate name some = ap (λ o. cons_option o (candidates trees directory)) some
 
 asked_of : FileMap → List (List ℕ) → List Question
 asked_of files names = map (λ name. (name, Presence (contains_key files name))) (up_to_first files names)
 
 -- an answer joins what was asked before
-asked_next : (old now new : FilesView) (asked : List Question) (name : List ℕ) (there : Bool) → now ≡ noted old asked → Answers now new name (Presence there)
+asked_next : (old now new : FilesView) (asked : List Question) (name : List ℕ) (there : Bool) → now ≡ noted old asked
+    → Answers now new name (Presence there)
     → (there ≡ contains_key old.files name) × (new ≡ noted old (asked ++ (name, Presence there) ∷ []))
 asked_next old now new asked name there state answer = (
   answer.0 ∙ ap (λ (world : FilesView). contains_key world.files name) state,
@@ -38,14 +40,17 @@ asked_next old now new asked name there state answer = (
 asked_from : (files : FileMap) (name : List ℕ) (names : List (List ℕ)) (there : Bool) → there ≡ contains_key files name
     → asked_of files (name ∷ names) ≡ (name, Presence there) ∷ asked_of files (cond there [] names)
 unfolding asked_of
-asked_from files name names true is = ap (λ b. (name, Presence b) ∷ map (λ n. (n, Presence (contains_key files n))) (cond b [] (up_to_first files names))) (sym is)
-asked_from files name names false is = ap (λ b. (name, Presence b) ∷ map (λ n. (n, Presence (contains_key files n))) (cond b [] (up_to_first files names))) (sym is)
+asked_from files name names true is = ap (λ b. (name, Presence b) ∷ map (λ n. (n, Presence (contains_key files n)))
+    (cond b [] (up_to_first files names))) (sym is)
+asked_from files name names false is = ap (λ b. (name, Presence b) ∷ map (λ n. (n, Presence (contains_key files n)))
+    (cond b [] (up_to_first files names))) (sym is)
 
 found_from : (files : FileMap) (name : List ℕ) (names : List (List ℕ)) (there : Bool) → there ≡ contains_key files name
     → find (contains_key files) (name ∷ names) ≡ cond there (Some name) (find (contains_key files) names)
 found_from files name names there is = ap (λ b. cond b (Some name) (find (contains_key files) names)) (sym is)
 
-pub misses : {old now new : FilesView} {all : List (List ℕ)} (tree : List ℕ) (trees : List (List ℕ)) (directory name : List ℕ) → result_ok (resolved (makefile_in tree directory)) ≡ Some name → Answers now new name (Presence false)
+pub misses : {old now new : FilesView} {all : List (List ℕ)} (tree : List ℕ) (trees : List (List ℕ)) (directory name : List ℕ)
+    → result_ok (resolved (makefile_in tree directory)) ≡ Some name → Answers now new name (Presence false)
     → IsUnderway old now (tree ∷ trees) all directory → IsUnderway old new trees all directory
 unfolding asked_of
 misses {old} {now} {new} {all} tree trees directory name some answer h =

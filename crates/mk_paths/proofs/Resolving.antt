@@ -1,5 +1,6 @@
 -- A resolved name is its own resolved name.
-use Rattle.std.proofs.Common.{◌≡◌, ◌∙◌, sym, ap, subst, refl, ℕ, Bool, true, false, cond, ◌&&◌, ◌||◌, not, ◌-◌, eqb, List, [], ◌∷◌, ◌++◌, length, take, drop, get_or, Option, Some, None, Ok, Err, codes, arith, append_assoc}
+use Rattle.std.proofs.Common.{◌≡◌, ◌∙◌, sym, ap, subst, refl, ℕ, Bool, true, false, cond, ◌&&◌, ◌||◌, not, ◌-◌, eqb, List, [], ◌∷◌, ◌++◌}
+use Rattle.std.proofs.Common.{length, take, drop, get_or, Option, Some, None, Ok, Err, codes, arith, append_assoc}
 use Rattle.std.proofs.lemmas.Bool.{and_parts, and_from}
 use Rattle.std.proofs.lemmas.Grind.{common_steps}
 use Rattle.std.proofs.lemmas.List.{append-nil, take-append-drop}
@@ -10,7 +11,8 @@ use Rattle.std.specs.List.{list_all}
 use Rattle.std.specs.Option.{option_and_then}
 use Rattle.std.specs.Str.{bytes_eq}
 use Rattle.general_facts.specs.Ascii.{slash}
-use Rattle.mk_paths.specs.FileName.{is_plain, parts_of_name, kept_parts, with_part, without_last, with_slashes, name_of_parts, resolved, IsResolved}
+use Rattle.mk_paths.specs.FileName.{is_plain, parts_of_name, kept_parts, with_part, without_last, with_slashes, name_of_parts, resolved}
+use Rattle.mk_paths.specs.FileName.{IsResolved}
 use Rattle.mk_paths.specs.declared.file_name.NameFault.TheVariants.{BadName}
 
 -- a byte between slashes
@@ -23,7 +25,8 @@ is_kept part = (not (bytes_eq part []) && not (bytes_eq part (codes ".")) && not
 
 list_all-take : {X : Type 0} (p : X → Bool) (n : ℕ) (xs : List X) → list_all p xs ≡ true → list_all p (take n xs) ≡ true
 list_all-take p n xs a =
-    (and_parts (list_all p (take n xs)) (list_all p (drop n xs)) (sym (list_all-append p (take n xs) (drop n xs)) ∙ ap (list_all p) (take-append-drop n xs) ∙ a)).0
+    (and_parts (list_all p (take n xs)) (list_all p (drop n xs)) (sym (list_all-append p (take n xs) (drop n xs))
+        ∙ ap (list_all p) (take-append-drop n xs) ∙ a)).0
 
 -- the parts that are left
 
@@ -37,7 +40,8 @@ stands a b c d p q r = grind (arith, common_steps)
 tests_of : (a b c d : Bool) → ((not a && not b && not c) && d) ≡ true → ((a || b) ≡ false) × (c ≡ false) × (d ≡ true)
 tests_of a b c d e = grind (arith, common_steps)
 
-keeps_by : (dot up : Bool) (kept : List (List ℕ)) (part : List ℕ) (next : List (List ℕ)) → list_all is_kept kept ≡ true → (dot ≡ false → up ≡ false → is_kept part ≡ true)
+keeps_by : (dot up : Bool) (kept : List (List ℕ)) (part : List ℕ) (next : List (List ℕ)) → list_all is_kept kept ≡ true
+    → (dot ≡ false → up ≡ false → is_kept part ≡ true)
     → cond dot (Some kept) (cond up (without_last kept) (Some (kept ++ part ∷ []))) ≡ Some next → list_all is_kept next ≡ true
 keeps_by true up kept part next a b e =
     let same : kept ≡ next = cc in
@@ -46,20 +50,25 @@ keeps_by false true kept part next a b e =
     subst (λ parts. list_all is_kept parts ≡ true) (last_off _ _ next e) (list_all-take is_kept (length kept - 1) kept a)
 keeps_by false false kept part next a b e =
     let same : kept ++ part ∷ [] ≡ next = cc in
-    subst (λ parts. list_all is_kept parts ≡ true) same (list_all-append is_kept kept (part ∷ []) ∙ and_from (list_all is_kept kept) (list_all is_kept (part ∷ [])) a (and_from (is_kept part) true (b refl refl) refl))
+    subst (λ parts. list_all is_kept parts ≡ true) same (list_all-append is_kept kept (part ∷ [])
+        ∙ and_from (list_all is_kept kept) (list_all is_kept (part ∷ [])) a (and_from (is_kept part) true (b refl refl) refl))
 
-keeps : (kept : List (List ℕ)) (part : List ℕ) (next : List (List ℕ)) → list_all is_kept kept ≡ true → list_all may_occur part ≡ true → with_part kept part ≡ Some next → list_all is_kept next ≡ true
+keeps : (kept : List (List ℕ)) (part : List ℕ) (next : List (List ℕ)) → list_all is_kept kept ≡ true → list_all may_occur part ≡ true
+    → with_part kept part ≡ Some next → list_all is_kept next ≡ true
 keeps kept part next a b e =
-    keeps_by (bytes_eq part [] || bytes_eq part (codes ".")) (bytes_eq part (codes "..")) kept part next a (λ p q. stands (bytes_eq part []) (bytes_eq part (codes ".")) (bytes_eq part (codes "..")) (list_all may_occur part) p q b) e
+    keeps_by (bytes_eq part [] || bytes_eq part (codes ".")) (bytes_eq part (codes "..")) kept part next a
+        (λ p q. stands (bytes_eq part []) (bytes_eq part (codes ".")) (bytes_eq part (codes "..")) (list_all may_occur part) p q b) e
 
-pub kept_stand : (kept parts next : List (List ℕ)) → list_all is_kept kept ≡ true → list_all (list_all may_occur) parts ≡ true → kept_parts kept parts ≡ Some next → list_all is_kept next ≡ true
+pub kept_stand : (kept parts next : List (List ℕ)) → list_all is_kept kept ≡ true → list_all (list_all may_occur) parts ≡ true
+    → kept_parts kept parts ≡ Some next → list_all is_kept next ≡ true
 unfolding kept_parts
 kept_stand kept [] next a b e =
     let same : kept ≡ next = cc in
     subst (λ parts. list_all is_kept parts ≡ true) same a
 kept_stand kept (part ∷ parts) next a b e =
     let t = and_parts (list_all may_occur part) (list_all (list_all may_occur) parts) b in
-    elim (with_part kept part) as (λ o. with_part kept part ≡ o → option_and_then (λ more. kept_parts more parts) o ≡ Some next → list_all is_kept next ≡ true) [
+    elim (with_part kept part) as (λ o. with_part kept part ≡ o → option_and_then (λ more. kept_parts more parts) o ≡ Some next
+        → list_all is_kept next ≡ true) [
       | None ↦ λ is none. cc
       | Some more ↦ λ is some. kept_stand more parts next (keeps kept part more a t.0 is) t.1 some
     ] refl e
@@ -75,7 +84,8 @@ unfolding kept_parts
 kept_again kept [] a = ap Some (sym (append-nil kept))
 kept_again kept (part ∷ parts) a =
     let e = and_parts (is_kept part) (list_all is_kept parts) a in
-    ap (option_and_then (λ next. kept_parts next parts)) (with_kept kept part e.0) ∙ kept_again (kept ++ part ∷ []) parts e.1 ∙ ap Some (append_assoc kept (part ∷ []) parts)
+    ap (option_and_then (λ next. kept_parts next parts)) (with_kept kept part e.0) ∙ kept_again (kept ++ part ∷ []) parts e.1
+        ∙ ap Some (append_assoc kept (part ∷ []) parts)
 
 -- joined parts, cut again
 
@@ -89,14 +99,16 @@ ok_of : (test : Bool) (wanted name : List ℕ) → cond test (Ok wanted) (Err Ba
 ok_of true wanted name e = cc
 ok_of false wanted name e = cc
 
-resolved_of : (first plain : Bool) (parts : Option (List (List ℕ))) (name : List ℕ) → cond (first && plain) (name_of_parts parts) (Err BadName) ≡ Ok name
+resolved_of : (first plain : Bool) (parts : Option (List (List ℕ))) (name : List ℕ)
+    → cond (first && plain) (name_of_parts parts) (Err BadName) ≡ Ok name
     → (plain ≡ true) × (kept : List (List ℕ)) × (parts ≡ Some kept) × (name ≡ with_slashes kept) × (name_of_parts (Some kept) ≡ Ok name)
 resolved_of false plain parts name e = absurd cc
 resolved_of true false parts name e = absurd cc
 resolved_of true true None name e = absurd cc
 resolved_of true true (Some kept) name e = (refl, kept, refl, ok_of _ (with_slashes kept) name e, e)
 
-again : (kept : List (List ℕ)) (name : List ℕ) → list_all is_kept kept ≡ true → name ≡ with_slashes kept → name_of_parts (Some kept) ≡ Ok name → IsResolved name
+again : (kept : List (List ℕ)) (name : List ℕ) → list_all is_kept kept ≡ true → name ≡ with_slashes kept
+    → name_of_parts (Some kept) ≡ Ok name → IsResolved name
 unfolding kept_parts
 again [] name a same e = absurd cc
 again (part ∷ parts) name a same e =
@@ -104,7 +116,8 @@ again (part ∷ parts) name a same e =
     let cut : parts_of_name text ≡ [] ∷ part ∷ parts = written_is_cut_again slash is_plain [] (part ∷ parts) (stand (part ∷ parts) a) in
     let kept : kept_parts [] (parts_of_name text) ≡ Some (part ∷ parts) = ap (kept_parts []) cut ∙ kept_again [] (part ∷ parts) a in
     let here : resolved text ≡ Ok name =
-    ap (λ b. cond b (name_of_parts (kept_parts [] (parts_of_name text))) (Err BadName)) (written_parts_may_occur slash is_plain [] (part ∷ parts) refl (stand (part ∷ parts) a)) ∙ ap name_of_parts kept ∙ e in
+    ap (λ b. cond b (name_of_parts (kept_parts [] (parts_of_name text))) (Err BadName))
+        (written_parts_may_occur slash is_plain [] (part ∷ parts) refl (stand (part ∷ parts) a)) ∙ ap name_of_parts kept ∙ e in
     record { itself = subst (λ bytes. resolved bytes ≡ Ok name) (sym same) here }
 
 -- what a text names is a name that names itself

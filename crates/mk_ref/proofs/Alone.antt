@@ -1,9 +1,11 @@
 -- What is cut off a text before the first reference that doesn't end is cut the same alone.
-use Rattle.std.proofs.Common.{◌≡◌, ℕ, zero, suc, ◌+◌, ◌≤◌, List, [], ◌∷◌, ◌++◌, length, take, drop, get_or, Option, Some, None, IfSome, refl, sym, ap, subst, ◌∙◌, arith, cond, inl, inr, length-append, length-drop}
+use Rattle.std.proofs.Common.{◌≡◌, ℕ, zero, suc, ◌+◌, ◌≤◌, List, [], ◌∷◌, ◌++◌, length, take, drop, get_or, Option, Some, None, IfSome}
+use Rattle.std.proofs.Common.{refl, sym, ap, subst, ◌∙◌, arith, cond, inl, inr, length-append, length-drop}
 use Rattle.std.proofs.lemmas.Bool.Decides.{eqb_tells}
 use Rattle.std.proofs.lemmas.List.{drop_more, take_at}
 use Rattle.mk_ref.specs.Places.{IsUnclosedAt}
-use Rattle.mk_ref.specs.Atoms.{TextAtom, Byte, source, sources, opening_after, atom_before, atom_by, up_to_mark, first_atom, cut_on, cut, atoms_of, left_of}
+use Rattle.mk_ref.specs.Atoms.{TextAtom, Byte, source, sources, opening_after, atom_before, atom_by, up_to_mark, first_atom, cut_on, cut}
+use Rattle.mk_ref.specs.Atoms.{atoms_of, left_of}
 use Rattle.mk_ref.proofs.AtomSteps.{IsAtomOf, first_whole, first-nil, cut-next, atoms-text}
 use Rattle.mk_ref.proofs.PartSteps.{StartsLike, first_same}
 
@@ -38,7 +40,8 @@ alone_some text atom rest is h =
       alone = ap (λ x. cut (sources x.0)) whole ∙ step ∙ ap (atom_before atom) h.alone ∙ ap (λ x. (x.0, [])) (sym whole);
     }
 
-alone_first : (bound : ℕ) (text : List ℕ) (first : Option (TextAtom × List ℕ)) → first_atom text ≡ first → IfSome first (λ x. IsAtomOf text x.0 x.1)
+alone_first : (bound : ℕ) (text : List ℕ) (first : Option (TextAtom × List ℕ)) → first_atom text ≡ first
+    → IfSome first (λ x. IsAtomOf text x.0 x.1)
     → length text ≤ suc bound → ((rest : List ℕ) → length rest ≤ bound → IsCutAlone rest) → IsCutAlone text
 alone_first bound text None is whole near h = alone_none text is
 alone_first bound text (Some x) is whole near h =
@@ -58,7 +61,8 @@ unfolding first_atom
 unended b rest none =
     elim (eqb_tells b 36) [
       | inl dollar ↦ dollar.1
-      | inr other ↦ absurd (let no : Some (Byte b, rest) ≡ None = ap (λ t. atom_by up_to_mark (cond t (opening_after rest) None) (b ∷ rest)) (sym other.0) ∙ none in cc)
+      | inr other ↦ absurd (let no : Some (Byte b, rest) ≡ None = ap (λ t. atom_by up_to_mark (cond t (opening_after rest) None) (b ∷ rest))
+          (sym other.0) ∙ none in cc)
     ]
 
 pub unclosed-dollar : (text : List ℕ) (at : ℕ) → IsUnclosedAt text at → get_or text at 0 ≡ 36

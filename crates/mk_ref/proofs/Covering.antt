@@ -1,5 +1,6 @@
 -- What is outside references is in the place where it was.
-use Rattle.std.proofs.Common.{◌≡◌, ◌≢◌, ◌⊎◌, ℕ, zero, suc, ◌+◌, ◌<◌, List, [], ◌∷◌, ◌++◌, length, take, drop, map, get_or, refl, sym, ap, subst, ◌∙◌, inl, inr, append-nil}
+use Rattle.std.proofs.Common.{◌≡◌, ◌≢◌, ◌⊎◌, ℕ, zero, suc, ◌+◌, ◌<◌, List, [], ◌∷◌, ◌++◌, length, take, drop, map, get_or, refl, sym, ap}
+use Rattle.std.proofs.Common.{subst, ◌∙◌, inl, inr, append-nil}
 use Rattle.std.specs.List.{flat_map}
 use Rattle.mk_ref.specs.Atoms.{TextAtom, Byte, EscapedDollar, Reference, source, sources, atoms_of, left_of}
 use Rattle.mk_ref.proofs.AtomSteps.{atoms-text}
@@ -34,13 +35,15 @@ covers-atom (Reference written name modifiers) = covers-dollars written
 
 covers-atoms : (atoms : List TextAtom) → Covers (flat_map covered atoms) (sources atoms)
 covers-atoms [] = tt
-covers-atoms (atom ∷ atoms) = covers-append (covered atom) (source atom) (flat_map covered atoms) (sources atoms) (covers-atom atom) (covers-atoms atoms)
+covers-atoms (atom ∷ atoms) = covers-append (covered atom) (source atom) (flat_map covered atoms) (sources atoms)
+    (covers-atom atom) (covers-atoms atoms)
 
 pub covers-outside : (text : List ℕ) → Covers (outside text) text
 unfolding outside
 covers-outside text =
     subst (Covers (flat_map covered (atoms_of text) ++ dollars (left_of text))) (atoms-text text)
-    (covers-append (flat_map covered (atoms_of text)) (sources (atoms_of text)) (dollars (left_of text)) (left_of text) (covers-atoms (atoms_of text)) (covers-dollars (left_of text)))
+    (covers-append (flat_map covered (atoms_of text)) (sources (atoms_of text)) (dollars (left_of text)) (left_of text)
+        (covers-atoms (atoms_of text)) (covers-dollars (left_of text)))
 
 covers-length : (plain text : List ℕ) → Covers plain text → length plain ≡ length text
 covers-length [] [] is = refl
@@ -76,19 +79,22 @@ covered-pieces (EscapedDollar ∷ atoms) = ap (λ l. 36 ∷ 36 ∷ l) (covered-p
 covered-pieces (Reference written name modifiers ∷ atoms) = ap (λ l. dollars written ++ l) (covered-pieces atoms)
 
 -- a text whose references all end, from its pieces
-pub outside-whole : (text : List ℕ) (found : List TextPiece) → found ≡ pieces_of (atoms_of text) → left_of text ≡ [] → flat_map covered_piece found ≡ outside text
+pub outside-whole : (text : List ℕ) (found : List TextPiece) → found ≡ pieces_of (atoms_of text) → left_of text ≡ []
+    → flat_map covered_piece found ≡ outside text
 unfolding outside
 outside-whole text found is whole =
     ap (flat_map covered_piece) is ∙ covered-pieces (atoms_of text) ∙ sym (append-nil (flat_map covered (atoms_of text)))
     ∙ ap (λ l. flat_map covered (atoms_of text) ++ dollars l) (sym whole)
 
 -- a text in which a reference begins that doesn't end, from the pieces before that
-pub outside-unclosed : (text : List ℕ) (at : ℕ) (found : List TextPiece) → IsUnclosedAt text at → found ≡ pieces_of (atoms_of (take at text))
+pub outside-unclosed : (text : List ℕ) (at : ℕ) (found : List TextPiece) → IsUnclosedAt text at
+    → found ≡ pieces_of (atoms_of (take at text))
     → flat_map covered_piece found ++ dollars (drop at text) ≡ outside text
 unfolding outside
 outside-unclosed text at found unclosed is =
     ap (λ l. flat_map covered_piece l ++ dollars (drop at text)) is
-    ∙ ap (λ l. l ++ dollars (drop at text)) (covered-pieces (atoms_of (take at text)) ∙ ap (λ x. flat_map covered x.0) (cut-front text at unclosed))
+    ∙ ap (λ l. l ++ dollars (drop at text)) (covered-pieces (atoms_of (take at text))
+        ∙ ap (λ x. flat_map covered x.0) (cut-front text at unclosed))
     ∙ ap (λ l. flat_map covered (atoms_of text) ++ dollars l) (sym unclosed.left)
 
 -- the next piece

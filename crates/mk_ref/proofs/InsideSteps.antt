@@ -1,5 +1,7 @@
 -- What is inside a reference, as far as it was read.
-use Rattle.std.proofs.Common.{◌≡◌, ◌≢◌, ℕ, ◌+◌, ◌-◌, ◌<◌, ◌≤◌, Bool, true, false, cond, nat_eq, List, [], ◌∷◌, ◌++◌, length, take, drop, get_or, Option, Some, None, option_map, IfSome, refl, sym, ap, subst, ◌∙◌, arith, inl, inr, append_assoc, append-nil, length-drop, length-take}
+use Rattle.std.proofs.Common.{◌≡◌, ◌≢◌, ℕ, ◌+◌, ◌-◌, ◌<◌, ◌≤◌, Bool, true, false, cond, nat_eq, List, [], ◌∷◌, ◌++◌, length, take, drop}
+use Rattle.std.proofs.Common.{get_or, Option, Some, None, option_map, IfSome, refl, sym, ap, subst, ◌∙◌, arith, inl, inr, append_assoc}
+use Rattle.std.proofs.Common.{append-nil, length-drop, length-take}
 use Rattle.std.specs.Prelude.{slice_range, unwrap_or}
 use Rattle.std.proofs.lemmas.Bool.{eqb-true, eq-eqb, ne_eqb}
 use Rattle.std.proofs.lemmas.Bool.Decides.{eqb_tells}
@@ -10,7 +12,8 @@ use Rattle.std.proofs.lemmas.Option.{none-some, same_Some}
 use Rattle.std.proofs.lemmas.Grind.{flat_map-append}
 use Rattle.mk_ref.specs.declared.opening.Opening.{Opening}
 use Rattle.mk_ref.specs.declared.opening.Opening.TheVariants.{Doubled, Letter, Marked}
-use Rattle.mk_ref.specs.Atoms.{TextAtom, Byte, EscapedDollar, Reference, source, sources, is_colon, before_colon, following_colon, opening_after, opening_of, marked_first, atom_by, atom_before, with_more, up_to_mark, first_atom}
+use Rattle.mk_ref.specs.Atoms.{TextAtom, Byte, EscapedDollar, Reference, source, sources, is_colon, before_colon, following_colon}
+use Rattle.mk_ref.specs.Atoms.{opening_after, opening_of, marked_first, atom_by, atom_before, with_more, up_to_mark, first_atom}
 use Rattle.mk_ref.specs.Ends.{GoesOnAt, IsInside}
 use Rattle.mk_ref.proofs.ScanSteps.{up_to-atom}
 use Rattle.mk_ref.proofs.AtomSteps.{up_to-nil, up_to-cons, first_whole, IsAtomOf}
@@ -34,7 +37,8 @@ pub range_join : (text : List ℕ) (a b c : ℕ) → a ≤ b → b ≤ c → sli
 range_join text a b c low high =
     append_cancel_right (slice_range text a b ++ slice_range text b c) (slice_range text a c) (drop c text)
     (append_assoc (slice_range text a b) (slice_range text b c) (drop c text)
-    ∙ ap (λ l. slice_range text a b ++ l) (sym (drop_split text b c high)) ∙ sym (drop_split text a b low) ∙ drop_split text a c (omega arith))
+    ∙ ap (λ l. slice_range text a b ++ l) (sym (drop_split text b c high)) ∙ sym (drop_split text a b low)
+    ∙ drop_split text a c (omega arith))
 
 -- nothing is between a place and itself
 pub range_none : (text : List ℕ) (a : ℕ) → slice_range text a a ≡ []
@@ -47,21 +51,26 @@ pub record OccursAt (text : List ℕ) (at next : ℕ) (atom : TextAtom) : Type 0
   pub later : at < next
   pub within : next ≤ length text
 
-read_of : (read : Option (TextAtom × List ℕ)) (rest : List ℕ) → option_map (λ x. x.1) read ≡ Some rest → (atom : TextAtom) × (read ≡ Some (atom, rest))
+read_of : (read : Option (TextAtom × List ℕ)) (rest : List ℕ) → option_map (λ x. x.1) read ≡ Some rest → (atom : TextAtom)
+    × (read ≡ Some (atom, rest))
 read_of None rest is = cc
 read_of (Some x) rest is = (x.0, ap (λ l. Some (x.0, l)) (same_Some x.1 rest is))
 
-pub written_as : (text : List ℕ) (at next : ℕ) (atom : TextAtom) → at ≤ next → first_atom (drop at text) ≡ Some (atom, drop next text) → source atom ≡ slice_range text at next
+pub written_as : (text : List ℕ) (at next : ℕ) (atom : TextAtom) → at ≤ next → first_atom (drop at text) ≡ Some (atom, drop next text)
+    → source atom ≡ slice_range text at next
 written_as text at next atom low first =
     append_cancel_right (source atom) (slice_range text at next) (drop next text)
     ((subst (λ o. IfSome o (λ x. IsAtomOf (drop at text) x.0 x.1)) first (first_whole (drop at text))).whole ∙ drop_split text at next low)
 
-pub stands_at : (text : List ℕ) (at next : ℕ) → GoesOnAt text at (first_atom (drop at text)) next → (atom : TextAtom) × OccursAt text at next atom
+pub stands_at : (text : List ℕ) (at next : ℕ) → GoesOnAt text at (first_atom (drop at text)) next → (atom : TextAtom)
+    × OccursAt text at next atom
 stands_at text at next h =
     let found = read_of (first_atom (drop at text)) (drop next text) h.rest in
-    (found.0, record { first = found.1; written = written_as text at next found.0 (omega (arith, h.later)) found.1; later = h.later; within = h.within })
+    (found.0, record { first = found.1; written = written_as text at next found.0 (omega (arith, h.later)) found.1; later =
+        h.later; within = h.within })
 
-no_colon_marked : (front : List ℕ) (mark : ℕ) (read : Option (List TextAtom × List ℕ)) → IfSome (option_map (marked_first front mark) read) (λ x. is_colon x.0 ≡ false)
+no_colon_marked : (front : List ℕ) (mark : ℕ) (read : Option (List TextAtom × List ℕ)) → IfSome (option_map (marked_first front mark) read)
+    (λ x. is_colon x.0 ≡ false)
 no_colon_marked front mark None = tt
 no_colon_marked front mark (Some x) = refl
 
@@ -80,20 +89,23 @@ colon_by (Some opening) b rest is =
       | inr other ↦ absurd (none-some opening (ap (λ t. cond t (opening_after rest) None) (sym other.0) ∙ is))
     ]
 
-pub colon_first : (text : List ℕ) (at next : ℕ) (atom : TextAtom) → at < length text → OccursAt text at next atom → is_colon atom ≡ nat_eq (get_or text at 0) 58
+pub colon_first : (text : List ℕ) (at next : ℕ) (atom : TextAtom) → at < length text → OccursAt text at next atom
+    → is_colon atom ≡ nat_eq (get_or text at 0) 58
 unfolding first_atom
 colon_first text at next atom near h =
     subst (λ o. IfSome o (λ x. is_colon x.0 ≡ nat_eq (get_or text at 0) 58)) (ap first_atom (sym (drop_more text at 0 near)) ∙ h.first)
     (colon_by (opening_of (get_or text at 0 ∷ drop (at + 1) text)) (get_or text at 0) (drop (at + 1) text) refl)
 
-before_found_by : (test : Bool) (first : TextAtom) (atoms found : List TextAtom) (atom : TextAtom) → cond test (Some atoms) (following_colon atoms) ≡ Some found
+before_found_by : (test : Bool) (first : TextAtom) (atoms found : List TextAtom) (atom : TextAtom)
+    → cond test (Some atoms) (following_colon atoms) ≡ Some found
     → (following_colon atoms ≡ Some found → before_colon (atoms ++ atom ∷ []) ≡ before_colon atoms)
     → cond test [] (first ∷ before_colon (atoms ++ atom ∷ [])) ≡ cond test [] (first ∷ before_colon atoms)
 before_found_by true first atoms found atom is h = refl
 before_found_by false first atoms found atom is h = ap (λ l. first ∷ l) (h is)
 
 -- atoms with one more after them, if a colon is among them
-before-found : (atoms found : List TextAtom) (atom : TextAtom) → following_colon atoms ≡ Some found → before_colon (atoms ++ atom ∷ []) ≡ before_colon atoms
+before-found : (atoms found : List TextAtom) (atom : TextAtom) → following_colon atoms ≡ Some found
+    → before_colon (atoms ++ atom ∷ []) ≡ before_colon atoms
 before-found [] found atom is = cc
 before-found (first ∷ atoms) found atom is = before_found_by (is_colon first) first atoms found atom is (before-found atoms found atom)
 
@@ -103,7 +115,8 @@ after_found_by : (test : Bool) (atoms found : List TextAtom) (atom : TextAtom) �
 after_found_by true atoms found atom is h = ap (λ l. Some (l ++ atom ∷ [])) (same_Some atoms found is)
 after_found_by false atoms found atom is h = h is
 
-after-found : (atoms found : List TextAtom) (atom : TextAtom) → following_colon atoms ≡ Some found → following_colon (atoms ++ atom ∷ []) ≡ Some (found ++ atom ∷ [])
+after-found : (atoms found : List TextAtom) (atom : TextAtom) → following_colon atoms ≡ Some found → following_colon (atoms ++ atom ∷ []) ≡
+    Some (found ++ atom ∷ [])
 after-found [] found atom is = cc
 after-found (first ∷ atoms) found atom is = after_found_by (is_colon first) atoms found atom is (after-found atoms found atom)
 
@@ -150,18 +163,22 @@ read_push : (atoms : List TextAtom) (atom : TextAtom) (read : Option (List TextA
 read_push atoms atom None = refl
 read_push atoms atom (Some x) = ap (λ l. Some (l, x.1)) (sym (append_assoc atoms (atom ∷ []) x.0))
 
-up_to-here : (text : List ℕ) (mark at : ℕ) → at < length text → get_or text at 0 ≢ mark → up_to_mark mark (drop at text) ≡ with_more (up_to_mark mark) (first_atom (drop at text))
+up_to-here : (text : List ℕ) (mark at : ℕ) → at < length text → get_or text at 0 ≢ mark → up_to_mark mark (drop at text) ≡ with_more
+    (up_to_mark mark) (first_atom (drop at text))
 up_to-here text mark at near other =
     let from = drop_more text at 0 near in
     ap (up_to_mark mark) from ∙ up_to-atom mark (get_or text at 0) (drop (at + 1) text) (ne_eqb (get_or text at 0) mark other)
     ∙ ap (λ l. with_more (up_to_mark mark) (first_atom l)) (sym from)
 
-up_to-mark : (text : List ℕ) (mark at : ℕ) → at < length text → get_or text at 0 ≡ mark → up_to_mark mark (drop at text) ≡ Some ([], drop (at + 1) text)
+up_to-mark : (text : List ℕ) (mark at : ℕ) → at < length text → get_or text at 0 ≡ mark → up_to_mark mark (drop at text) ≡ Some
+    ([], drop (at + 1) text)
 up_to-mark text mark at near is =
     ap (up_to_mark mark) (drop_more text at 0 near) ∙ up_to-cons mark (get_or text at 0) (drop (at + 1) text)
-    ∙ ap (λ t. cond t (Some ([], drop (at + 1) text)) (with_more (up_to_mark mark) (first_atom (get_or text at 0 ∷ drop (at + 1) text)))) (eq-eqb (get_or text at 0) mark is)
+    ∙ ap (λ t. cond t (Some ([], drop (at + 1) text)) (with_more (up_to_mark mark) (first_atom (get_or text at 0 ∷ drop (at + 1) text))))
+        (eq-eqb (get_or text at 0) mark is)
 
-read_more : (text : List ℕ) (start closing : ℕ) (colon : Option ℕ) (at next : ℕ) (atom : TextAtom) (h : InsideSoFar text start closing colon at)
+read_more : (text : List ℕ) (start closing : ℕ) (colon : Option ℕ) (at next : ℕ) (atom : TextAtom)
+    (h : InsideSoFar text start closing colon at)
     → at < length text → get_or text at 0 ≢ closing → OccursAt text at next atom
     → up_to_mark closing (drop start text) ≡ option_map (atoms_before (h.atoms ++ atom ∷ [])) (up_to_mark closing (drop next text))
 read_more text start closing colon at next atom h near other stands =
@@ -174,7 +191,8 @@ abbrev pub colon_after : Option ℕ → ℕ → ℕ → Option ℕ
 colon_after None b at = cond (nat_eq b 58) (Some at) None
 colon_after (Some colon) b at = Some colon
 
-found_of : (found : Option (List TextAtom)) (text : List ℕ) → option_map sources found ≡ Some text → (atoms : List TextAtom) × (found ≡ Some atoms) × (sources atoms ≡ text)
+found_of : (found : Option (List TextAtom)) (text : List ℕ) → option_map sources found ≡ Some text → (atoms : List TextAtom)
+    × (found ≡ Some atoms) × (sources atoms ≡ text)
 found_of None text is = cc
 found_of (Some atoms) text is = (atoms, refl, same_Some (sources atoms) text is)
 
@@ -197,14 +215,17 @@ more_after text start closing colon at next atom h near other stands =
       within = stands.within;
       name = ap sources (before-found h.atoms found.0 atom found.1) ∙ h.name;
       modifiers = ap (option_map sources) (after-found h.atoms found.0 atom found.1)
-          ∙ ap Some (sources_push found.0 atom ∙ ap (λ l. l ++ source atom) found.2 ∙ ap (λ l. slice_range text (colon + 1) at ++ l) stands.written
+          ∙ ap Some (sources_push found.0 atom ∙ ap (λ l. l ++ source atom) found.2
+              ∙ ap (λ l. slice_range text (colon + 1) at ++ l) stands.written
           ∙ range_join text (colon + 1) at next (omega (arith, h.colon_at.1)) (omega (arith, stands.later)));
       colon_at = (h.colon_at.0, omega (arith, h.colon_at.1, stands.later), h.colon_at.2);
     }
 
 -- an atom before any colon, by whether it is one
-more_before : (test : Bool) (text : List ℕ) (start closing at next : ℕ) (atom : TextAtom) → nat_eq (get_or text at 0) 58 ≡ test → InsideSoFar text start closing None at
-    → at < length text → get_or text at 0 ≢ closing → OccursAt text at next atom → InsideSoFar text start closing (cond test (Some at) None) next
+more_before : (test : Bool) (text : List ℕ) (start closing at next : ℕ) (atom : TextAtom) → nat_eq (get_or text at 0) 58 ≡ test
+    → InsideSoFar text start closing None at
+    → at < length text → get_or text at 0 ≢ closing → OccursAt text at next atom
+    → InsideSoFar text start closing (cond test (Some at) None) next
 more_before false text start closing at next atom is h near other stands =
     let none = none_of (following_colon h.atoms) h.modifiers in
     let plain = colon_first text at next atom near stands ∙ is in
@@ -227,7 +248,8 @@ more_before true text start closing at next atom is h near other stands =
       read = read_more text start closing None at next atom h near other stands;
       later = omega (arith, h.later, stands.later);
       within = stands.within;
-      name = ap sources (before-none h.atoms (atom ∷ []) none ∙ ap (λ t. h.atoms ++ cond t [] (atom ∷ [])) plain ∙ append-nil h.atoms ∙ sym (before-all h.atoms none)) ∙ h.name;
+      name = ap sources (before-none h.atoms (atom ∷ []) none ∙ ap (λ t. h.atoms ++ cond t [] (atom ∷ [])) plain ∙ append-nil h.atoms
+          ∙ sym (before-all h.atoms none)) ∙ h.name;
       modifiers = ap (option_map sources) (after-none h.atoms (atom ∷ []) none ∙ ap (λ t. cond t (Some []) None) plain)
           ∙ ap Some (sym (range_none text (at + 1)) ∙ ap (slice_range text (at + 1)) (sym (colon_end text at next atom stands plain)));
       colon_at = (h.later, stands.later, eqb-true (get_or text at 0) 58 is);
@@ -249,7 +271,8 @@ pub inside-close : (text : List ℕ) (start closing : ℕ) (colon : Option ℕ) 
     → at < length text → get_or text at 0 ≡ closing → IsInside text start closing (record { colon = colon; close = at })
 inside-close text start closing colon at h near is = record {
   atoms = h.atoms;
-  read = h.read ∙ ap (option_map (atoms_before h.atoms)) (up_to-mark text closing at near is) ∙ ap (λ l. Some (l, drop (at + 1) text)) (append-nil h.atoms);
+  read = h.read ∙ ap (option_map (atoms_before h.atoms)) (up_to-mark text closing at near is)
+      ∙ ap (λ l. Some (l, drop (at + 1) text)) (append-nil h.atoms);
   later = h.later;
   within = near;
   marked = is;

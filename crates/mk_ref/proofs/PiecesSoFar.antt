@@ -1,5 +1,6 @@
 -- The pieces of a text, as far as they are found.
-use Rattle.std.proofs.Common.{◌≡◌, ℕ, ◌+◌, ◌<◌, ◌≤◌, Bool, true, false, cond, nat_lt, List, [], ◌∷◌, ◌++◌, length, map, drop, get_or, Some, None, All, IsUtf8, IsCharBoundary, refl, sym, ap, subst, ◌∙◌, arith, append_assoc}
+use Rattle.std.proofs.Common.{◌≡◌, ℕ, ◌+◌, ◌<◌, ◌≤◌, Bool, true, false, cond, nat_lt, List, [], ◌∷◌, ◌++◌, length, map, drop, get_or, Some}
+use Rattle.std.proofs.Common.{None, All, IsUtf8, IsCharBoundary, refl, sym, ap, subst, ◌∙◌, arith, append_assoc}
 use Rattle.std.specs.Prelude.{slice_range}
 use Rattle.std.proofs.lemmas.Bool.{ltb-true, ltb-false}
 use Rattle.std.proofs.lemmas.List.{drop_more, map-append}
@@ -9,7 +10,8 @@ use Rattle.std.proofs.lemmas.Str.{IsCharBoundary-start, IsCharBoundary-end}
 use Rattle.general_facts.specs.Lists.{slice_range-one}
 use Rattle.mk_ref.specs.declared.pieces_of_text.Piece.{Piece}
 use Rattle.mk_ref.specs.declared.pieces_of_text.Piece.TheVariants as v
-use Rattle.mk_ref.specs.Atoms.{TextAtom, Byte, EscapedDollar, Reference, opening_of, atom_before, first_atom, cut_on, cut, atoms_of, left_of}
+use Rattle.mk_ref.specs.Atoms.{TextAtom, Byte, EscapedDollar, Reference, opening_of, atom_before, first_atom, cut_on, cut, atoms_of}
+use Rattle.mk_ref.specs.Atoms.{left_of}
 use Rattle.mk_ref.specs.Pieces.{TextPiece, LiteralPiece, with_byte, pieces_of}
 use Rattle.mk_ref.specs.Places.{piece_in_text, span_of_piece, FollowFrom, IsPieceIn, IsUnclosedAt}
 use Rattle.mk_ref.specs.Firsts.{literal_at, IsAlone, IsPieceAt}
@@ -19,7 +21,8 @@ use Rattle.mk_ref.proofs.InsideSteps.{range_join, range_none, length-range}
 
 -- the pieces found before `literal`, and the bytes from there up to `at`, which mean themselves
 pub record CutSoFar (text : List ℕ) (found : List Piece) (literal at : ℕ) : Type 0 where
-  pub pieces : map (piece_in_text text) found ++ pieces_of (map Byte (slice_range text literal at) ++ atoms_of (drop at text)) ≡ pieces_of (atoms_of text)
+  pub pieces : map (piece_in_text text) found ++ pieces_of (map Byte (slice_range text literal at) ++ atoms_of (drop at text)) ≡
+      pieces_of (atoms_of text)
   pub left : left_of (drop at text) ≡ left_of text
   pub order : FollowFrom 0 found literal
   pub places : All (IsPieceIn text) found
@@ -41,13 +44,15 @@ so_far-none text utf8 = record {
 cut-first : (text : List ℕ) (atom : TextAtom) (rest : List ℕ) → first_atom text ≡ Some (atom, rest) → cut text ≡ atom_before atom (cut rest)
 cut-first text atom rest is = cut-next text ∙ ap (cut_on cut text) is
 
-first_byte : (text : List ℕ) (at : ℕ) → at < length text → opening_of (drop at text) ≡ None → first_atom (drop at text) ≡ Some (Byte (get_or text at 0), drop (at + 1) text)
+first_byte : (text : List ℕ) (at : ℕ) → at < length text → opening_of (drop at text) ≡ None
+    → first_atom (drop at text) ≡ Some (Byte (get_or text at 0), drop (at + 1) text)
 first_byte text at near plain =
     let from = drop_more text at 0 near in
     ap first_atom from ∙ first-opening (get_or text at 0 ∷ drop (at + 1) text) None (ap opening_of (sym from) ∙ plain)
 
 -- a byte that means itself
-pub so_far-byte : (text : List ℕ) (found : List Piece) (literal at : ℕ) → CutSoFar text found literal at → at < length text → opening_of (drop at text) ≡ None
+pub so_far-byte : (text : List ℕ) (found : List Piece) (literal at : ℕ) → CutSoFar text found literal at → at < length text
+    → opening_of (drop at text) ≡ None
     → CutSoFar text found literal (at + 1)
 so_far-byte text found literal at h near plain =
     let b = get_or text at 0 in
@@ -75,12 +80,14 @@ abbrev pub literal_pieces : List ℕ → List TextPiece
 literal_pieces [] = []
 literal_pieces (b ∷ bytes) = LiteralPiece (b ∷ bytes) ∷ []
 
-alone_first : (atom : TextAtom) (piece : TextPiece) (atoms : List TextAtom) → IsAlone atom piece → pieces_of (atom ∷ atoms) ≡ piece ∷ pieces_of atoms
+alone_first : (atom : TextAtom) (piece : TextPiece) (atoms : List TextAtom) → IsAlone atom piece
+    → pieces_of (atom ∷ atoms) ≡ piece ∷ pieces_of atoms
 alone_first (Byte b) piece atoms is = absurd is
 alone_first EscapedDollar piece atoms is = ap (λ p. p ∷ pieces_of atoms) (sym is)
 alone_first (Reference written name modifiers) piece atoms is = ap (λ p. p ∷ pieces_of atoms) (sym is)
 
-alone_byte : (b : ℕ) (atom : TextAtom) (piece : TextPiece) (pieces : List TextPiece) → IsAlone atom piece → with_byte b (piece ∷ pieces) ≡ LiteralPiece (b ∷ []) ∷ piece ∷ pieces
+alone_byte : (b : ℕ) (atom : TextAtom) (piece : TextPiece) (pieces : List TextPiece) → IsAlone atom piece
+    → with_byte b (piece ∷ pieces) ≡ LiteralPiece (b ∷ []) ∷ piece ∷ pieces
 alone_byte b (Byte c) piece pieces is = absurd is
 alone_byte b EscapedDollar piece pieces is = rw is refl
 alone_byte b (Reference written name modifiers) piece pieces is = rw is refl
@@ -105,9 +112,11 @@ no_literal [] none = refl
 no_literal (b ∷ bytes) none = absurd (omega arith)
 
 -- pieces that directly follow one another, in two parts
-stand_on : (start : ℕ) (found : List Piece) (middle : ℕ) (more : List Piece) (end : ℕ) → FollowFrom start found middle → FollowFrom middle more end → FollowFrom start (found ++ more) end
+stand_on : (start : ℕ) (found : List Piece) (middle : ℕ) (more : List Piece) (end : ℕ) → FollowFrom start found middle
+    → FollowFrom middle more end → FollowFrom start (found ++ more) end
 stand_on start [] middle more end front back = subst (λ n. FollowFrom n more end) (sym front) back
-stand_on start (piece ∷ found) middle more end front back = (front.0, front.1, stand_on (span_of_piece piece).end found middle more end front.2 back)
+stand_on start (piece ∷ found) middle more end front back =
+    (front.0, front.1, stand_on (span_of_piece piece).end found middle more end front.2 back)
 
 -- what the literal from a place up to another is
 pub record IsLiteralAt (text : List ℕ) (start end : ℕ) (literal : List Piece) : Type 0 where
@@ -115,7 +124,8 @@ pub record IsLiteralAt (text : List ℕ) (start end : ℕ) (literal : List Piece
   pub order : FollowFrom start literal end
   pub places : All (IsPieceIn text) literal
 
-literal_by : (test : Bool) (text : List ℕ) (start end : ℕ) → nat_lt start end ≡ test → start ≤ end → end ≤ length text → IsCharBoundary text start → IsCharBoundary text end
+literal_by : (test : Bool) (text : List ℕ) (start end : ℕ) → nat_lt start end ≡ test → start ≤ end → end ≤ length text
+    → IsCharBoundary text start → IsCharBoundary text end
     → IsLiteralAt text start end (cond test (v.Literal (record { start = start; end = end }) ∷ []) [])
 literal_by true text start end is ordered within starts ends =
     let less : start < end = ltb-true start end is in
@@ -123,7 +133,8 @@ literal_by true text start end is ordered within starts ends =
     record {
       pieces = sym (some_literal (slice_range text start end) (omega (arith, size)));
       order = (refl, less, refl);
-      places = All-cons (IsPieceIn text) (v.Literal (record { start = start; end = end })) [] (record { ordered = ordered; starts = starts; ends = ends }) (All-nil (IsPieceIn text));
+      places = All-cons (IsPieceIn text) (v.Literal (record { start = start; end = end })) []
+          (record { ordered = ordered; starts = starts; ends = ends }) (All-nil (IsPieceIn text));
     }
 literal_by false text start end is ordered within starts ends =
     let less : end ≤ start = ltb-false start end is in
@@ -145,7 +156,8 @@ ends_cut text (v.EscapedDollar span) is = is.0.ends
 ends_cut text (v.Reference reference) is = is.whole.ends
 
 -- a pair or a reference, with the literal before it
-pub so_far-piece : (text : List ℕ) (found : List Piece) (literal at : ℕ) (piece : Piece) → CutSoFar text found literal at → IsPieceAt text at piece
+pub so_far-piece : (text : List ℕ) (found : List Piece) (literal at : ℕ) (piece : Piece) → CutSoFar text found literal at
+    → IsPieceAt text at piece
     → CutSoFar text ((found ++ literal_at literal at) ++ piece ∷ []) (span_of_piece piece).end (span_of_piece piece).end
 so_far-piece text found literal at piece h p =
     let end : ℕ = (span_of_piece piece).end in
@@ -156,17 +168,22 @@ so_far-piece text found literal at piece h p =
     let rest : List TextPiece = pieces_of (atoms_of (drop end text)) in
     let lit = literal_by (nat_lt literal at) text literal at refl h.ordered h.within h.starts here in
     record {
-      pieces = ap (λ l. map (piece_in_text text) ((found ++ before) ++ piece ∷ []) ++ pieces_of (map Byte l ++ atoms_of (drop end text))) (range_none text end)
-          ∙ ap (λ l. l ++ rest) (map-append (piece_in_text text) (found ++ before) (piece ∷ []) ∙ ap (λ l. l ++ piece_in_text text piece ∷ []) (map-append (piece_in_text text) found before))
+      pieces = ap (λ l. map (piece_in_text text) ((found ++ before) ++ piece ∷ []) ++ pieces_of (map Byte l ++ atoms_of (drop end text)))
+          (range_none text end)
+          ∙ ap (λ l. l ++ rest) (map-append (piece_in_text text) (found ++ before) (piece ∷ [])
+              ∙ ap (λ l. l ++ piece_in_text text piece ∷ []) (map-append (piece_in_text text) found before))
           ∙ append_assoc (map (piece_in_text text) found ++ map (piece_in_text text) before) (piece_in_text text piece ∷ []) rest
           ∙ append_assoc (map (piece_in_text text) found) (map (piece_in_text text) before) (piece_in_text text piece ∷ rest)
           ∙ ap (λ l. map (piece_in_text text) found ++ (l ++ piece_in_text text piece ∷ rest)) lit.pieces
           ∙ ap (λ l. map (piece_in_text text) found ++ l)
-          (sym (ap (λ x. pieces_of (map Byte bytes ++ x.0)) next ∙ alone_after bytes p.atom (piece_in_text text piece) (atoms_of (drop end text)) p.alone))
+          (sym (ap (λ x. pieces_of (map Byte bytes ++ x.0)) next ∙ alone_after bytes p.atom (piece_in_text text piece)
+              (atoms_of (drop end text)) p.alone))
           ∙ h.pieces;
       left = ap (λ x. x.1) (sym next) ∙ h.left;
-      order = stand_on 0 (found ++ literal_at literal at) at (piece ∷ []) end (stand_on 0 found literal (literal_at literal at) at h.order lit.order) (p.start, p.later, refl);
-      places = All-append (IsPieceIn text) (found ++ literal_at literal at) (piece ∷ []) (All-append (IsPieceIn text) found (literal_at literal at) h.places lit.places)
+      order = stand_on 0 (found ++ literal_at literal at) at (piece ∷ []) end (stand_on 0 found literal (literal_at literal at) at h.order
+          lit.order) (p.start, p.later, refl);
+      places = All-append (IsPieceIn text) (found ++ literal_at literal at) (piece ∷ [])
+          (All-append (IsPieceIn text) found (literal_at literal at) h.places lit.places)
           (All-cons (IsPieceIn text) piece [] p.places (All-nil (IsPieceIn text)));
       ordered = omega arith;
       within = p.within;
@@ -183,7 +200,8 @@ pub record AllCut (text : List ℕ) (found : List Piece) : Type 0 where
 cut-nil : cut [] ≡ ([], [])
 cut-nil = cut-next [] ∙ ap (cut_on cut []) first-nil
 
-all_at : (text : List ℕ) (found : List Piece) (literal : ℕ) → CutSoFar text found literal (length text) → AllCut text (found ++ literal_at literal (length text))
+all_at : (text : List ℕ) (found : List Piece) (literal : ℕ) → CutSoFar text found literal (length text)
+    → AllCut text (found ++ literal_at literal (length text))
 all_at text found literal h =
     let end : ℕ = length text in
     let bytes : List ℕ = slice_range text literal end in
@@ -199,11 +217,15 @@ all_at text found literal h =
     }
 
 -- the end of the text is met
-pub all-cut : (text : List ℕ) (found : List Piece) (literal at : ℕ) → CutSoFar text found literal at → length text ≤ at → AllCut text (found ++ literal_at literal at)
+pub all-cut : (text : List ℕ) (found : List Piece) (literal at : ℕ) → CutSoFar text found literal at → length text ≤ at
+    → AllCut text (found ++ literal_at literal at)
 all-cut text found literal at h end =
     let last : at ≡ length text = omega (arith, h.within) in
-    subst (λ n. AllCut text (found ++ literal_at literal n)) (sym last) (all_at text found literal (subst (CutSoFar text found literal) last h))
+    subst (λ n. AllCut text (found ++ literal_at literal n)) (sym last)
+        (all_at text found literal (subst (CutSoFar text found literal) last h))
 
 -- a reference begins that doesn't end
-pub unclosed : (text : List ℕ) (found : List Piece) (literal at : ℕ) → CutSoFar text found literal at → at < length text → first_atom (drop at text) ≡ None → IsUnclosedAt text at
-unclosed text found literal at h near none = record { inside = near; left = sym h.left ∙ ap (λ x. x.1) (cut-next (drop at text) ∙ ap (cut_on cut (drop at text)) none) }
+pub unclosed : (text : List ℕ) (found : List Piece) (literal at : ℕ) → CutSoFar text found literal at → at < length text
+    → first_atom (drop at text) ≡ None → IsUnclosedAt text at
+unclosed text found literal at h near none = record { inside = near; left = sym h.left
+    ∙ ap (λ x. x.1) (cut-next (drop at text) ∙ ap (cut_on cut (drop at text)) none) }

@@ -9,7 +9,8 @@ first-byte : (b : ℕ) (rest : List ℕ) → nat_eq b 36 ≡ false → first_ato
 unfolding first_atom
 first-byte b rest other = rw other refl
 
-by-first : (b : ℕ) (rest : List ℕ) (first : Bool) → nat_eq b 36 ≡ first → (list_any (λ c. c == 36) rest ≡ false → cut rest ≡ (map Byte rest, []))
+by-first : (b : ℕ) (rest : List ℕ) (first : Bool) → nat_eq b 36 ≡ first
+    → (list_any (λ c. c == 36) rest ≡ false → cut rest ≡ (map Byte rest, []))
     → list_any (λ c. c == 36) (b ∷ rest) ≡ false → cut (b ∷ rest) ≡ (map Byte (b ∷ rest), [])
 by-first b rest true is goes none = absurd (true≢false (rw is at none))
 by-first b rest false is goes none =

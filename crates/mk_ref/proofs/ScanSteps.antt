@@ -1,11 +1,13 @@
 -- Where what begins with an opening mark ends: marks that are open one inside another.
-use Rattle.std.proofs.Common.{◌≡◌, ◌≢◌, ℕ, ◌+◌, ◌<◌, ◌≤◌, true, false, cond, nat_eq, List, [], ◌∷◌, ◌++◌, length, take, drop, get_or, reverse, Option, Some, None, option_map, option_and_then, refl, sym, ap, ◌∙◌, arith, drop-drop}
+use Rattle.std.proofs.Common.{◌≡◌, ◌≢◌, ℕ, ◌+◌, ◌<◌, ◌≤◌, true, false, cond, nat_eq, List, [], ◌∷◌, ◌++◌, length, take, drop, get_or}
+use Rattle.std.proofs.Common.{reverse, Option, Some, None, option_map, option_and_then, refl, sym, ap, ◌∙◌, arith, drop-drop}
 use Rattle.std.proofs.lemmas.Bool.{eq-eqb, ne_eqb}
 use Rattle.std.proofs.lemmas.List.{drop_more, reverse-append}
 use Rattle.std.proofs.Math.ListN.{drop_of_length-le}
 use Rattle.mk_ref.specs.declared.opening.Opening.{Opening}
 use Rattle.mk_ref.specs.declared.opening.Opening.TheVariants.{Doubled, Letter, Marked}
-use Rattle.mk_ref.specs.Atoms.{TextAtom, Byte, EscapedDollar, Reference, opening_of, marked_reference, marked_first, atom_by, atom_before, with_more, up_to_mark, first_atom}
+use Rattle.mk_ref.specs.Atoms.{TextAtom, Byte, EscapedDollar, Reference, opening_of, marked_reference, marked_first, atom_by, atom_before}
+use Rattle.mk_ref.specs.Atoms.{with_more, up_to_mark, first_atom}
 use Rattle.mk_ref.specs.Ends.{GoesOnAt, EndsAt, AtomEndsAt}
 use Rattle.mk_ref.proofs.AtomSteps.{up_to-nil, up_to-cons}
 
@@ -28,29 +30,37 @@ after-reference mark marks front inner (Some x) = after-atom marks (marked_refer
 pub after-none : (mark : ℕ) (marks : List ℕ) → after_marks (mark ∷ marks) [] ≡ None
 after-none mark marks = ap (option_and_then (λ x. after_marks marks x.1)) (up_to-nil mark)
 
-pub after-mark : (mark : ℕ) (marks : List ℕ) (b : ℕ) (rest : List ℕ) → nat_eq b mark ≡ true → after_marks (mark ∷ marks) (b ∷ rest) ≡ after_marks marks rest
+pub after-mark : (mark : ℕ) (marks : List ℕ) (b : ℕ) (rest : List ℕ) → nat_eq b mark ≡ true → after_marks (mark ∷ marks) (b ∷ rest)
+    ≡ after_marks marks rest
 after-mark mark marks b rest is =
-    ap (option_and_then (λ x. after_marks marks x.1)) (up_to-cons mark b rest ∙ ap (λ t. cond t (Some ([], rest)) (with_more (up_to_mark mark) (first_atom (b ∷ rest)))) is)
+    ap (option_and_then (λ x. after_marks marks x.1)) (up_to-cons mark b rest
+        ∙ ap (λ t. cond t (Some ([], rest)) (with_more (up_to_mark mark) (first_atom (b ∷ rest)))) is)
 
 -- a text that goes on with an atom
-pub up_to-atom : (mark b : ℕ) (rest : List ℕ) → nat_eq b mark ≡ false → up_to_mark mark (b ∷ rest) ≡ with_more (up_to_mark mark) (first_atom (b ∷ rest))
-up_to-atom mark b rest other = up_to-cons mark b rest ∙ ap (λ t. cond t (Some ([], rest)) (with_more (up_to_mark mark) (first_atom (b ∷ rest)))) other
+pub up_to-atom : (mark b : ℕ) (rest : List ℕ) → nat_eq b mark ≡ false → up_to_mark mark (b ∷ rest) ≡ with_more
+    (up_to_mark mark) (first_atom (b ∷ rest))
+up_to-atom mark b rest other = up_to-cons mark b rest
+    ∙ ap (λ t. cond t (Some ([], rest)) (with_more (up_to_mark mark) (first_atom (b ∷ rest)))) other
 
 -- what a text begins with, from its opening
-pub first-opening : (text : List ℕ) (opening : Option Opening) → opening_of text ≡ opening → first_atom text ≡ atom_by up_to_mark opening text
+pub first-opening : (text : List ℕ) (opening : Option Opening) → opening_of text ≡ opening
+    → first_atom text ≡ atom_by up_to_mark opening text
 unfolding first_atom
 first-opening text opening is = ap (λ o. atom_by up_to_mark o text) is
 
 pub after-first : (mark : ℕ) (marks : List ℕ) (b : ℕ) (rest : List ℕ) (atom : TextAtom) (behind : List ℕ)
-    → nat_eq b mark ≡ false → first_atom (b ∷ rest) ≡ Some (atom, behind) → after_marks (mark ∷ marks) (b ∷ rest) ≡ after_marks (mark ∷ marks) behind
+    → nat_eq b mark ≡ false → first_atom (b ∷ rest) ≡ Some (atom, behind) → after_marks (mark ∷ marks) (b ∷ rest) ≡
+        after_marks (mark ∷ marks) behind
 after-first mark marks b rest atom behind other is =
     ap (option_and_then (λ x. after_marks marks x.1)) (up_to-atom mark b rest other ∙ ap (with_more (up_to_mark mark)) is)
     ∙ after-atom marks atom (up_to_mark mark behind)
 
 pub after-open : (mark : ℕ) (marks : List ℕ) (b : ℕ) (rest : List ℕ) (inner : ℕ)
-    → nat_eq b mark ≡ false → opening_of (b ∷ rest) ≡ Some (Marked inner) → after_marks (mark ∷ marks) (b ∷ rest) ≡ after_marks (inner ∷ mark ∷ marks) (drop 1 rest)
+    → nat_eq b mark ≡ false → opening_of (b ∷ rest) ≡ Some (Marked inner) → after_marks (mark ∷ marks) (b ∷ rest) ≡ after_marks
+        (inner ∷ mark ∷ marks) (drop 1 rest)
 after-open mark marks b rest inner other is =
-    ap (option_and_then (λ x. after_marks marks x.1)) (up_to-atom mark b rest other ∙ ap (with_more (up_to_mark mark)) (first-opening (b ∷ rest) (Some (Marked inner)) is))
+    ap (option_and_then (λ x. after_marks marks x.1)) (up_to-atom mark b rest other
+        ∙ ap (with_more (up_to_mark mark)) (first-opening (b ∷ rest) (Some (Marked inner)) is))
     ∙ after-reference mark marks (take 2 (b ∷ rest)) inner (up_to_mark inner (drop 1 rest))
 
 -- The marks that are open at a place: after them, the innermost first, comes what follows the first mark to be closed from
@@ -70,7 +80,8 @@ module _ (text : List ℕ) (at : ℕ) (near : at < length text) where
   from_here : drop at text ≡ get_or text at 0 ∷ drop (at + 1) text
   from_here = drop_more text at 0 near
 
-  opening_here : (opening : Option Opening) → opening_of (drop at text) ≡ opening → opening_of (get_or text at 0 ∷ drop (at + 1) text) ≡ opening
+  opening_here : (opening : Option Opening) → opening_of (drop at text) ≡ opening
+      → opening_of (get_or text at 0 ∷ drop (at + 1) text) ≡ opening
   opening_here opening is = ap opening_of (sym from_here) ∙ is
 
   first_here : (opening : Option Opening) → opening_of (drop at text) ≡ opening
@@ -123,7 +134,8 @@ open-byte text start closing around mark at h near other plain =
 
 -- a pair or a reference of one letter
 pub open-two : (text : List ℕ) (start closing : ℕ) (around : List ℕ) (mark at : ℕ) (opening : Opening) → IsTwo opening
-    → MarksOpen text start closing around mark at → at + 2 ≤ length text → get_or text at 0 ≢ mark → opening_of (drop at text) ≡ Some opening
+    → MarksOpen text start closing around mark at → at + 2 ≤ length text → get_or text at 0 ≢ mark
+    → opening_of (drop at text) ≡ Some opening
     → MarksOpen text start closing around mark (at + 2)
 open-two text start closing around mark at Doubled two h room other is =
     let near : at < length text = omega arith in
@@ -137,20 +149,23 @@ open-two text start closing around mark at Letter two h room other is =
     let here : List ℕ = get_or text at 0 ∷ drop (at + 1) text in
     open-step text start closing around mark at (at + 2) around mark h (omega arith) room
     (ap (after_marks (mark ∷ reverse around)) (from_here text at near)
-    ∙ after-first mark (reverse around) (get_or text at 0) (drop (at + 1) text) (Reference (take 2 here) (take 1 (drop 1 here)) None) (drop 1 (drop (at + 1) text))
+    ∙ after-first mark (reverse around) (get_or text at 0) (drop (at + 1) text) (Reference (take 2 here) (take 1 (drop 1 here)) None)
+        (drop 1 (drop (at + 1) text))
     (ne_eqb (get_or text at 0) mark other) (first_here text at near (Some Letter) is)
     ∙ ap (after_marks (mark ∷ reverse around)) (two_on text at near))
 open-two text start closing around mark at (Marked inner) two h room other is = elim two [ ]
 
 -- an inner reference with marks
 pub open-inner : (text : List ℕ) (start closing : ℕ) (around : List ℕ) (mark at : ℕ) (inner : ℕ)
-    → MarksOpen text start closing around mark at → at + 2 ≤ length text → get_or text at 0 ≢ mark → opening_of (drop at text) ≡ Some (Marked inner)
+    → MarksOpen text start closing around mark at → at + 2 ≤ length text → get_or text at 0 ≢ mark
+    → opening_of (drop at text) ≡ Some (Marked inner)
     → MarksOpen text start closing (around ++ mark ∷ []) inner (at + 2)
 open-inner text start closing around mark at inner h room other is =
     let near : at < length text = omega arith in
     open-step text start closing around mark at (at + 2) (around ++ mark ∷ []) inner h (omega arith) room
     (ap (after_marks (mark ∷ reverse around)) (from_here text at near)
-    ∙ after-open mark (reverse around) (get_or text at 0) (drop (at + 1) text) inner (ne_eqb (get_or text at 0) mark other) (opening_here text at near (Some (Marked inner)) is)
+    ∙ after-open mark (reverse around) (get_or text at 0) (drop (at + 1) text) inner (ne_eqb (get_or text at 0) mark other)
+        (opening_here text at near (Some (Marked inner)) is)
     ∙ ap (after_marks (inner ∷ mark ∷ reverse around)) (two_on text at near)
     ∙ ap (λ l. after_marks (inner ∷ l) (drop (at + 2) text)) (sym (reverse-append around (mark ∷ []))))
 
@@ -172,15 +187,18 @@ first-marked text at mark is =
     ∙ ap (λ l. option_map (marked_first (take 2 (drop at text)) mark) (up_to_mark mark l)) (drop-drop 2 at text)
 
 -- where an atom ends: a byte that means itself
-pub atom-byte : (text : List ℕ) (at : ℕ) → at < length text → opening_of (drop at text) ≡ None → GoesOnAt text at (first_atom (drop at text)) (at + 1)
+pub atom-byte : (text : List ℕ) (at : ℕ) → at < length text → opening_of (drop at text) ≡ None
+    → GoesOnAt text at (first_atom (drop at text)) (at + 1)
 atom-byte text at near plain = record {
-  rest = ap (λ l. option_map (λ x. x.1) (first_atom l)) (from_here text at near) ∙ ap (option_map (λ x. x.1)) (first_here text at near None plain);
+  rest = ap (λ l. option_map (λ x. x.1) (first_atom l)) (from_here text at near)
+      ∙ ap (option_map (λ x. x.1)) (first_here text at near None plain);
   later = omega arith;
   within = omega arith;
 }
 
 -- a pair or a reference of one letter
-pub atom-two : (text : List ℕ) (at : ℕ) (opening : Opening) → IsTwo opening → at + 2 ≤ length text → opening_of (drop at text) ≡ Some opening
+pub atom-two : (text : List ℕ) (at : ℕ) (opening : Opening) → IsTwo opening → at + 2 ≤ length text
+    → opening_of (drop at text) ≡ Some opening
     → GoesOnAt text at (first_atom (drop at text)) (at + 2)
 atom-two text at Doubled two room is = record {
   rest = ap (option_map (λ x. x.1)) (first-opening (drop at text) (Some Doubled) is) ∙ ap Some (drop-drop 2 at text);
@@ -205,7 +223,8 @@ pub atom-marked : (text : List ℕ) (at mark : ℕ) → opening_of (drop at text
 atom-marked text at mark is None h =
     first-marked text at mark is ∙ ap (option_map (marked_first (take 2 (drop at text)) mark)) h
 atom-marked text at mark is (Some end) h = record {
-  rest = ap (option_map (λ x. x.1)) (first-marked text at mark is) ∙ rest_of_marked (take 2 (drop at text)) mark (up_to_mark mark (drop (at + 2) text)) ∙ h.rest;
+  rest = ap (option_map (λ x. x.1)) (first-marked text at mark is) ∙ rest_of_marked (take 2 (drop at text)) mark
+      (up_to_mark mark (drop (at + 2) text)) ∙ h.rest;
   later = omega (arith, h.later);
   within = h.within;
 }

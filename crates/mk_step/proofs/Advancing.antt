@@ -1,10 +1,12 @@
 -- One thing done, and then the rest, is all that was still to be done.
-use Rattle.std.proofs.Common.{◌≡◌, ◌∙◌, ℕ, suc, zero, Bool, true, false, List, [], ◌∷◌, ◌++◌, Option, Some, None, Result, Ok, Err, if◌then◌else◌, refl, sym, ap}
+use Rattle.std.proofs.Common.{◌≡◌, ◌∙◌, ℕ, suc, zero, Bool, true, false, List, [], ◌∷◌, ◌++◌, Option, Some, None, Result, Ok, Err}
+use Rattle.std.proofs.Common.{if◌then◌else◌, refl, sym, ap}
 use Rattle.mk_base.specs.FaultAt.{FaultAt}
 use Rattle.mk_base.specs.Outcome.{Work, give, after, each, ◌>>=◌}
 use Rattle.mk_text.specs.Lines.{LogicalLine}
 use Rattle.mk_ast.specs.declared.parser.ParseFault.{ParseFault}
-use Rattle.mk_ast.specs.Trees.{Tree, LineTree, ChoiceTree, LoopTree, Block, EmptyBlock, MoreBlock, Branches, NoBranches, ElifBranch, ElseBranch}
+use Rattle.mk_ast.specs.Trees.{Tree, LineTree, ChoiceTree, LoopTree, Block, EmptyBlock, MoreBlock, Branches, NoBranches, ElifBranch}
+use Rattle.mk_ast.specs.Trees.{ElseBranch}
 use Rattle.mk_ast.specs.Parser.{parsed}
 use Rattle.mk_paths.specs.World.{FileMap}
 use Rattle.mk_files.specs.Questions.{Account, quietly}
@@ -17,9 +19,12 @@ use Rattle.mk_eval.specs.Execution.{LineWorks, execute, execute_tree, execute_br
 use Rattle.mk_eval.specs.Meaning.{enter, execute_read, blamed, blamed_at, open_line, include_module, include_modules, modules_after}
 use Rattle.mk_eval.specs.Steps.{entering_at}
 use Rattle.mk_eval.proofs.Stepping.{file_meaning-is}
-use Rattle.mk_step.specs.Machine.{Site, Frame, Lines, Later, Iterations, Modules, Searches, StateAndFrames, place_at, works_in, entering_in, numbered_line, rest, read_lines, file_lines, opened_lines, before, modules_at, do_tree, found_or, next_module, advance}
+use Rattle.mk_step.specs.Machine.{Site, Frame, Lines, Later, Iterations, Modules, Searches, StateAndFrames, place_at, works_in, entering_in}
+use Rattle.mk_step.specs.Machine.{numbered_line, rest, read_lines, file_lines, opened_lines, before, modules_at, do_tree, found_or}
+use Rattle.mk_step.specs.Machine.{next_module, advance}
 
-pub after-after : {A B C F M : Type 0} (r : Result (A × M) (F × M)) (f : A → Work M F B) (g : B → Work M F C) → after (after r f) g ≡ after r (λ x. f x >>= g)
+pub after-after : {A B C F M : Type 0} (r : Result (A × M) (F × M)) (f : A → Work M F B) (g : B → Work M F C)
+    → after (after r f) g ≡ after r (λ x. f x >>= g)
 after-after (Ok x) f g = refl
 after-after (Err stop) f g = refl
 
@@ -27,7 +32,8 @@ pub each-nil : {M F S X : Type 0} (iteration : S → X → Work M F S) (s : S) (
 unfolding each
 each-nil iteration s m = refl
 
-each-cons : {M F S X : Type 0} (iteration : S → X → Work M F S) (s : S) (x : X) (xs : List X) (m : M) → each iteration s (x ∷ xs) m ≡ after (iteration s x m) (λ next. each iteration next xs)
+each-cons : {M F S X : Type 0} (iteration : S → X → Work M F S) (s : S) (x : X) (xs : List X) (m : M) → each iteration s (x ∷ xs) m ≡ after
+    (iteration s x m) (λ next. each iteration next xs)
 unfolding each
 each-cons iteration s x xs m = refl
 
@@ -39,7 +45,8 @@ onward files makefile left = rest files makefile left.1 left.0
 module _ (files : FileMap) (makefile : List ℕ) (others : List Frame) where
   read : (file : List ℕ) (levels : ℕ) (found : Result Block ParseFault) (s : EvalState) (a : Account)
       → after (after (read_lines file levels found s a) (λ done. give (done.0, before done.1 others))) (onward files makefile)
-      ≡ after (execute_read (entering_at files makefile levels) (record { files = files; makefile = makefile; file = file; levels = levels }) found s a) (rest files makefile others)
+      ≡ after (execute_read (entering_at files makefile levels)
+          (record { files = files; makefile = makefile; file = file; levels = levels }) found s a) (rest files makefile others)
   read file levels (Ok lines) s a = refl
   read file levels (Err fault) s a = refl
 
@@ -70,9 +77,11 @@ module _ (files : FileMap) (makefile : List ℕ) (site : Site) (block : Block) (
   -- the modules, before the lines that follow
   then-modules : (line : ℕ) (asked : Bool) (r : Result (EvalState × Account) (FaultAt × Account))
       → after r (rest files makefile (modules_at site line asked ++ Lines site block ∷ frames))
-      ≡ after (after (after r (modules_after (entering_in files makefile site) (place_at files makefile site) line asked)) (execute works block site.loops)) (rest files makefile frames)
+      ≡ after (after (after r (modules_after (entering_in files makefile site) (place_at files makefile site) line asked))
+          (execute works block site.loops)) (rest files makefile frames)
   then-modules line true (Ok (s, a)) =
-      sym (after-after (include_modules (entering_in files makefile site) (place_at files makefile site) line s a) (execute works block site.loops) (rest files makefile frames))
+      sym (after-after (include_modules (entering_in files makefile site) (place_at files makefile site) line s a)
+          (execute works block site.loops) (rest files makefile frames))
   then-modules line false (Ok (s, a)) = refl
   then-modules line asked (Err end) = refl
 
@@ -100,23 +109,30 @@ module _ (files : FileMap) (makefile : List ℕ) (site : Site) (block : Block) (
   line-by line before_it (Err end) = refl
 
   choice-by : (first : Block) (later : Branches) (s : EvalState) (r : Result (Bool × Account) (FaultAt × Account))
-      → after (after (after r (λ held. give (s, (if held then Lines site first else Later site later) ∷ []))) left_by) (onward files makefile)
-      ≡ after (after (after r (λ held. if held then execute works first site.loops s else execute_branches works later site.loops s)) (execute works block site.loops)) (rest files makefile frames)
-  choice-by first later s (Ok (true, a)) = sym (after-after (execute works first site.loops s a) (execute works block site.loops) (rest files makefile frames))
-  choice-by first later s (Ok (false, a)) = sym (after-after (execute_branches works later site.loops s a) (execute works block site.loops) (rest files makefile frames))
+      → after (after (after r (λ held. give (s, (if held then Lines site first else Later site later) ∷ []))) left_by)
+          (onward files makefile)
+      ≡ after (after (after r (λ held. if held then execute works first site.loops s else execute_branches works later site.loops s))
+          (execute works block site.loops)) (rest files makefile frames)
+  choice-by first later s (Ok (true, a)) = sym (after-after (execute works first site.loops s a) (execute works block site.loops)
+      (rest files makefile frames))
+  choice-by first later s (Ok (false, a)) = sym (after-after (execute_branches works later site.loops s a) (execute works block site.loops)
+      (rest files makefile frames))
   choice-by first later s (Err end) = refl
 
   loop-by : (line : LogicalLine) (body : Block) (s : EvalState) (r : Result (List LoopWords × Account) (FaultAt × Account))
       → after (after (after r (λ iterations. give (s, Iterations site line.line body iterations ∷ []))) left_by) (onward files makefile)
-      ≡ after (after (after r (λ iterations. each (iteration_of (works.begins line) (execute works body) site.loops) s iterations)) (execute works block site.loops)) (rest files makefile frames)
+      ≡ after (after (after r (λ iterations. each (iteration_of (works.begins line) (execute works body) site.loops) s iterations))
+          (execute works block site.loops)) (rest files makefile frames)
   loop-by line body s (Ok (iterations, a)) =
-      sym (after-after (each (iteration_of (works.begins line) (execute works body) site.loops) s iterations a) (execute works block site.loops) (rest files makefile frames))
+      sym (after-after (each (iteration_of (works.begins line) (execute works body) site.loops) s iterations a)
+          (execute works block site.loops) (rest files makefile frames))
   loop-by line body s (Err end) = refl
 
   tree : (tree : Tree) (s : EvalState) (a : Account)
       → after (after (do_tree files makefile site tree s a) left_by) (onward files makefile)
       ≡ after (after (execute_tree works tree site.loops s a) (execute works block site.loops)) (rest files makefile frames)
-  tree (LineTree line) s a = line-by line s (blamed_at (place_at files makefile site) line (open_line (place_at files makefile site) site.loops line s) a)
+  tree (LineTree line) s a =
+      line-by line s (blamed_at (place_at files makefile site) line (open_line (place_at files makefile site) site.loops line s) a)
   tree (ChoiceTree line first later) s a = choice-by first later s (works.holds site.loops line s a)
   tree (LoopTree line body) s a = loop-by line body s (works.iterations site.loops line s a)
 
@@ -126,16 +142,23 @@ module _ (files : FileMap) (makefile : List ℕ) (site : Site) (frames : List Fr
 
   branch-by : (block : Block) (more : Branches) (s : EvalState) (r : Result (Bool × Account) (FaultAt × Account))
       → after (after r (λ held. give (s, (if held then Lines site block else Later site more) ∷ frames))) (onward files makefile)
-      ≡ after (after r (λ held. if held then execute works' block site.loops s else execute_branches works' more site.loops s)) (rest files makefile frames)
+      ≡ after (after r (λ held. if held then execute works' block site.loops s else execute_branches works' more site.loops s))
+          (rest files makefile frames)
   branch-by block more s (Ok (true, a)) = refl
   branch-by block more s (Ok (false, a)) = refl
   branch-by block more s (Err end) = refl
 
-  iteration-by : (line : ℕ) (body : Block) (iteration : LoopWords) (iterations : List LoopWords) (s : EvalState) (r : Result (Unit {0} × Account) (FaultAt × Account))
-      → after (after r (λ _. give (s, Lines (record site { loops = inside_iteration site.loops iteration }) body ∷ Iterations site line body iterations ∷ frames))) (onward files makefile)
-      ≡ after (after (after r (λ _. execute works' body (inside_iteration site.loops iteration) s)) (λ next. each (iteration_of (works'.begins (numbered_line line)) (execute works' body) site.loops) next iterations)) (rest files makefile frames)
+  iteration-by : (line : ℕ) (body : Block) (iteration : LoopWords) (iterations : List LoopWords) (s : EvalState)
+      (r : Result (Unit {0} × Account) (FaultAt × Account))
+      → after (after r (λ _. give (s, Lines (record site { loops = inside_iteration site.loops iteration }) body ∷ Iterations site line body
+          iterations ∷ frames))) (onward files makefile)
+      ≡ after (after (after r (λ _. execute works' body (inside_iteration site.loops iteration) s))
+          (λ next. each (iteration_of (works'.begins (numbered_line line)) (execute works' body) site.loops) next iterations))
+          (rest files makefile frames)
   iteration-by line body iteration iterations s (Ok (done, a)) =
-      sym (after-after (execute works' body (inside_iteration site.loops iteration) s a) (λ next. each (iteration_of (works'.begins (numbered_line line)) (execute works' body) site.loops) next iterations) (rest files makefile frames))
+      sym (after-after (execute works' body (inside_iteration site.loops iteration) s a)
+          (λ next. each (iteration_of (works'.begins (numbered_line line)) (execute works' body) site.loops) next iterations)
+          (rest files makefile frames))
   iteration-by line body iteration iterations s (Err end) = refl
 
 -- modules that are searched for
@@ -150,13 +173,15 @@ module _ (files : FileMap) (makefile : List ℕ) (site : Site) (line : ℕ) (fra
   left_found found = opened_lines site.levels found.0 >>= λ done. give (done.0, before done.1 (Searches site line found.1 ∷ frames))
 
   words-by : (s : EvalState) (r : Result (List (List ℕ) × Account) (FaultAt × Account))
-      → after (after r (λ words. give (s, Searches site line words ∷ frames))) (onward files makefile) ≡ after (after r (each including s)) (rest files makefile frames)
+      → after (after r (λ words. give (s, Searches site line words ∷ frames))) (onward files makefile) ≡ after (after r (each including s))
+          (rest files makefile frames)
   words-by s (Ok (words, a)) = refl
   words-by s (Err end) = refl
 
   abbrev IsSearched : List (List ℕ) → Type 0
   IsSearched words =
-      (s : EvalState) (a : Account) → after (after (next_module place line words s a) left_found) (onward files makefile) ≡ after (each including s words a) (rest files makefile frames)
+      (s : EvalState) (a : Account) → after (after (next_module place line words s a) left_found) (onward files makefile) ≡ after
+      (each including s words a) (rest files makefile frames)
 
   word-by : (words : List (List ℕ)) → IsSearched words → (r : Result (Opened × Account) (FaultAt × Account))
       → after (after (after r (found_or words (next_module place line words))) left_found) (onward files makefile)
@@ -164,7 +189,8 @@ module _ (files : FileMap) (makefile : List ℕ) (site : Site) (line : ℕ) (fra
   word-by words later (Ok ((s, None), a)) = later s a
   word-by words later (Ok ((s, Some file), a)) =
       entered files makefile (Searches site line words ∷ frames) site.levels file s a
-      ∙ sym (after-after (entering_at files makefile site.levels file.0 file.1 s a) (λ next. each including next words) (rest files makefile frames))
+      ∙ sym (after-after (entering_at files makefile site.levels file.0 file.1 s a) (λ next. each including next words)
+          (rest files makefile frames))
   word-by words later (Err end) = refl
 
   pub searched : (words : List (List ℕ)) → IsSearched words
@@ -175,16 +201,24 @@ module _ (files : FileMap) (makefile : List ℕ) (site : Site) (line : ℕ) (fra
 
 module _ (files : FileMap) (makefile : List ℕ) (frames : List Frame) where
   -- one thing that a frame does, and then the rest
-  pub advances : (frame : Frame) (s : EvalState) (a : Account) → after (advance files makefile frame frames s a) (onward files makefile) ≡ rest files makefile (frame ∷ frames) s a
+  pub advances : (frame : Frame) (s : EvalState) (a : Account) → after (advance files makefile frame frames s a) (onward files makefile) ≡
+      rest files makefile (frame ∷ frames) s a
   advances (Lines site EmptyBlock) s a = refl
   advances (Lines site (MoreBlock one block)) s a = tree files makefile site block frames one s a
   advances (Later site NoBranches) s a = refl
-  advances (Later site (ElifBranch line block more)) s a = branch-by files makefile site frames block more s ((works_in files makefile site).holds site.loops line s a)
+  advances (Later site (ElifBranch line block more)) s a = branch-by files makefile site frames block more s
+      ((works_in files makefile site).holds site.loops line s a)
   advances (Later site (ElseBranch block)) s a = refl
   advances (Iterations site line body []) s a =
-      ap (λ r. after r (rest files makefile frames)) (sym (each-nil (iteration_of ((works_in files makefile site).begins (numbered_line line)) (execute (works_in files makefile site) body) site.loops) s a))
+      ap (λ r. after r (rest files makefile frames))
+          (sym (each-nil (iteration_of ((works_in files makefile site).begins (numbered_line line))
+          (execute (works_in files makefile site) body) site.loops) s a))
   advances (Iterations site line body (iteration ∷ iterations)) s a =
-      iteration-by files makefile site frames line body iteration iterations s ((works_in files makefile site).begins (numbered_line line) a)
-      ∙ ap (λ r. after r (rest files makefile frames)) (sym (each-cons (iteration_of ((works_in files makefile site).begins (numbered_line line)) (execute (works_in files makefile site) body) site.loops) s iteration iterations a))
-  advances (Modules site line) s a = words-by files makefile site line frames s (blamed (place_at files makefile site) line (quietly (module_words s.variables)) a)
+      iteration-by files makefile site frames line body iteration iterations s
+          ((works_in files makefile site).begins (numbered_line line) a)
+      ∙ ap (λ r. after r (rest files makefile frames))
+          (sym (each-cons (iteration_of ((works_in files makefile site).begins (numbered_line line))
+          (execute (works_in files makefile site) body) site.loops) s iteration iterations a))
+  advances (Modules site line) s a = words-by files makefile site line frames s
+      (blamed (place_at files makefile site) line (quietly (module_words s.variables)) a)
   advances (Searches site line words) s a = searched files makefile site line frames words s a

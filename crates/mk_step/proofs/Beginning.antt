@@ -53,36 +53,49 @@ module _ (files : FileMap) (settings : Settings) (name : List ℕ) (flavors : Op
   first_asked content = (name, Contents content) ∷ []
 
   evaluates : (content : Option (List ℕ)) → get files name ≡ content → (limit : ℕ) (log : Option (List Question))
-      → evaluation (files, settings) name flavors (unspent_account limit log) ≡ makefile_meaning (files, settings) name flavors content (record { meter = full limit; log = with_asked log (first_asked content) })
+      → evaluation (files, settings) name flavors (unspent_account limit log) ≡ makefile_meaning (files, settings) name flavors content
+          (record { meter = full limit; log = with_asked log (first_asked content) })
   unfolding evaluation
-  evaluates content is limit log = ap (λ content. makefile_meaning (files, settings) name flavors content (record { meter = full limit; log = with_asked log (first_asked content) })) is
+  evaluates content is limit log =
+      ap (λ content. makefile_meaning (files, settings) name flavors content
+      (record { meter = full limit; log = with_asked log (first_asked content) })) is
 
-  missing : get files name ≡ None → EndsSo (files, settings) name flavors (first_asked None) (Err (fault_at kinds.Include name 0, full UNITS))
+  missing : get files name ≡ None → EndsSo (files, settings) name flavors (first_asked None)
+      (Err (fault_at kinds.Include name 0, full UNITS))
   missing is = record { ends = λ limit log low inside. evaluates None is limit log; within = omega arith }
 
   module _ (bytes : List ℕ) (is : get files name ≡ Some bytes) where
     reads : (limit : ℕ) (log : Option (List Question)) → evaluation (files, settings) name flavors (unspent_account limit log)
-        ≡ execute_read (entering_at files name 16) (record { files = files; makefile = name; file = name; levels = 16 }) (parsed bytes) (opening_state (files, settings) name flavors) (record { meter = full limit; log = with_asked log (first_asked (Some bytes)) })
+        ≡ execute_read (entering_at files name 16) (record { files = files; makefile = name; file = name; levels = 16 }) (parsed bytes)
+            (opening_state (files, settings) name flavors) (record { meter = full limit; log = with_asked log (first_asked (Some bytes)) })
     reads limit log =
         evaluates (Some bytes) is limit log
-        ∙ file_meaning-is files name 16 name bytes (opening_state (files, settings) name flavors) (record { meter = full limit; log = with_asked log (first_asked (Some bytes)) })
+        ∙ file_meaning-is files name 16 name bytes (opening_state (files, settings) name flavors)
+            (record { meter = full limit; log = with_asked log (first_asked (Some bytes)) })
 
-    stops_read : (fault : FaultAt) (found : Result Block ParseFault) (s : EvalState) (a : Account) → read_lines name 16 found s a ≡ Err (fault, a)
-        → execute_read (entering_at files name 16) (record { files = files; makefile = name; file = name; levels = 16 }) found s a ≡ Err (fault, a)
+    stops_read : (fault : FaultAt) (found : Result Block ParseFault) (s : EvalState) (a : Account)
+        → read_lines name 16 found s a ≡ Err (fault, a)
+        → execute_read (entering_at files name 16) (record { files = files; makefile = name; file = name; levels = 16 })
+            found s a ≡ Err (fault, a)
     stops_read fault (Ok block) s a is = cc
     stops_read fault (Err error) s a is =
-        ap (λ (r : Result ((EvalState × Option Frame) × Account) (FaultAt × Account)). let end : Result (EvalState × Account) (FaultAt × Account) = Err (fault_in r fault, a) in end) is
+        ap (λ (r : Result ((EvalState × Option Frame) × Account) (FaultAt × Account)). let end : Result (EvalState × Account)
+            (FaultAt × Account) = Err (fault_in r fault, a) in end) is
 
-    unreadable : (fault : FaultAt) → ((s : EvalState) (a : Account) → read_lines name 16 (parsed bytes) s a ≡ Err (fault, a)) → EndsSo (files, settings) name flavors (first_asked (Some bytes)) (Err (fault, full UNITS))
+    unreadable : (fault : FaultAt) → ((s : EvalState) (a : Account) → read_lines name 16 (parsed bytes) s a ≡ Err (fault, a))
+        → EndsSo (files, settings) name flavors (first_asked (Some bytes)) (Err (fault, full UNITS))
     unreadable fault fails = record {
       ends = λ limit log low inside.
           let a : Account = record { meter = full limit; log = with_asked log (first_asked (Some bytes)) } in
-          reads limit log ∙ stops_read fault (parsed bytes) (opening_state (files, settings) name flavors) a (fails (opening_state (files, settings) name flavors) a);
+          reads limit log ∙ stops_read fault (parsed bytes) (opening_state (files, settings) name flavors) a
+              (fails (opening_state (files, settings) name flavors) a);
       within = omega arith;
     }
 
-    goes : (frame : Frame) (found : Result Block ParseFault) (s : EvalState) (a : Account) → read_lines name 16 found s a ≡ Ok ((s, Some frame), a)
-        → execute_read (entering_at files name 16) (record { files = files; makefile = name; file = name; levels = 16 }) found s a ≡ rest files name (frame ∷ []) s a
+    goes : (frame : Frame) (found : Result Block ParseFault) (s : EvalState) (a : Account)
+        → read_lines name 16 found s a ≡ Ok ((s, Some frame), a)
+        → execute_read (entering_at files name 16) (record { files = files; makefile = name; file = name; levels = 16 }) found s a ≡ rest
+            files name (frame ∷ []) s a
     goes frame (Ok block) s a is =
         let site : Site = record { file = name; levels = 16; loops = None } in
         let same : Lines site block ≡ frame = let e : Some (Lines site block) ≡ Some frame = ap (λ r. frame_in r None) is in cc in
@@ -90,18 +103,21 @@ module _ (files : FileMap) (settings : Settings) (name : List ℕ) (flavors : Op
     goes frame (Err error) s a is = cc
 
     begun : (frame : Frame) → ((s : EvalState) (a : Account) → read_lines name 16 (parsed bytes) s a ≡ Ok ((s, Some frame), a))
-        → HasCome (files, settings) name flavors (first_asked (Some bytes)) (record { makefile = name; frames = frame ∷ []; state = opening_state (files, settings) name flavors; meter = full UNITS })
+        → HasCome (files, settings) name flavors (first_asked (Some bytes))
+            (record { makefile = name; frames = frame ∷ []; state = opening_state (files, settings) name flavors; meter = full UNITS })
     begun frame gives = record {
       ends = λ limit log low inside.
           let a : Account = record { meter = full limit; log = with_asked log (first_asked (Some bytes)) } in
-          reads limit log ∙ goes frame (parsed bytes) (opening_state (files, settings) name flavors) a (gives (opening_state (files, settings) name flavors) a);
+          reads limit log ∙ goes frame (parsed bytes) (opening_state (files, settings) name flavors) a
+              (gives (opening_state (files, settings) name flavors) a);
       limit = refl;
       within = omega arith;
     }
 
 -- what the code's beginning leaves
 module _ (may : FilesFault → Type 0) (old new : FilesView) (settings : Settings) (name : List ℕ) (flavors : Option (List (List ℕ))) where
-  pub look-stops : (stop : Stop FaultAt) → IsPossibleFailure may stop → Fails old new → BeginsMachine may old new (old.files, settings) name flavors (Err stop)
+  pub look-stops : (stop : Stop FaultAt) → IsPossibleFailure may stop → Fails old new
+      → BeginsMachine may old new (old.files, settings) name flavors (Err stop)
   look-stops (stops.Fault fault) refuses fails = absurd refuses
   look-stops (stops.Store refusal) refuses fails = LeavesAtStop-one may old new (stop_at (stops.Store refusal)) (refuses, fails)
   look-stops (stops.Memory refused) refuses fails = LeavesAtStop-one may old new (stop_at (stops.Memory refused)) (refuses, fails)
@@ -110,7 +126,8 @@ module _ (may : FilesFault → Type 0) (old new : FilesView) (settings : Setting
     pub memory-stops : BeginsMachine may old new (old.files, settings) name flavors (Err (stops.Memory refused))
     memory-stops = inl (AfterQuestions-one old new _ is)
 
-    pub missing-stops : (stop : Stop FaultAt) → get old.files name ≡ None → IsBlamed name 0 (stops.Fault kinds.Include) stop → BeginsMachine may old new (old.files, settings) name flavors (Err stop)
+    pub missing-stops : (stop : Stop FaultAt) → get old.files name ≡ None → IsBlamed name 0 (stops.Fault kinds.Include) stop
+        → BeginsMachine may old new (old.files, settings) name flavors (Err stop)
     missing-stops stop none blamed =
         elim blamed [
           | inl told ↦ rw told (record {
@@ -121,7 +138,8 @@ module _ (may : FilesFault → Type 0) (old new : FilesView) (settings : Setting
           | inr told ↦ rw told memory-stops
         ]
 
-    pub reading-stops : (stop : PureStop FaultAt) (bytes : List ℕ) → get old.files name ≡ Some bytes → ((s : EvalState) (a : Account) → StopsPurelyAt stop a (read_lines name 16 (parsed bytes) s a))
+    pub reading-stops : (stop : PureStop FaultAt) (bytes : List ℕ) → get old.files name ≡ Some bytes
+        → ((s : EvalState) (a : Account) → StopsPurelyAt stop a (read_lines name 16 (parsed bytes) s a))
         → BeginsMachine may old new (old.files, settings) name flavors (Err (stop_of_pure stop))
     reading-stops (pure.Fault fault) bytes there fails = record {
       more = first_asked old.files settings name flavors (Some bytes);
@@ -130,20 +148,25 @@ module _ (may : FilesFault → Type 0) (old new : FilesView) (settings : Setting
     }
     reading-stops (pure.Memory _) bytes there fails = memory-stops
 
-    pub begins : (machine : Machine) (frame : Frame) (bytes : List ℕ) → get old.files name ≡ Some bytes → ((s : EvalState) (a : Account) → read_lines name 16 (parsed bytes) s a ≡ Ok ((s, Some frame), a))
-        → point_of machine ≡ record { makefile = name; frames = frame ∷ []; state = opening_state (old.files, settings) name flavors; meter = full UNITS }
+    pub begins : (machine : Machine) (frame : Frame) (bytes : List ℕ) → get old.files name ≡ Some bytes
+        → ((s : EvalState) (a : Account) → read_lines name 16 (parsed bytes) s a ≡ Ok ((s, Some frame), a))
+        → point_of machine ≡ record { makefile = name; frames = frame ∷ []; state = opening_state (old.files, settings) name
+            flavors; meter = full UNITS }
         → BeginsMachine may old new (old.files, settings) name flavors (Ok machine)
     begins machine frame bytes there gives same = (
       record {
         more = first_asked old.files settings name flavors (Some bytes);
-        so = subst (HasCome (old.files, settings) name flavors (first_asked old.files settings name flavors (Some bytes))) (sym same) (begun old.files settings name flavors bytes there frame gives);
+        so = subst (HasCome (old.files, settings) name flavors (first_asked old.files settings name flavors (Some bytes))) (sym same)
+            (begun old.files settings name flavors bytes there frame gives);
         noted = is ∙ ap (λ content. noted old ((name, Contents content) ∷ [])) there;
       },
       ap (λ (point : Point). point.meter) same,
     )
 
-pub point-is : (makefile makefile' : List ℕ) (frames frames' : List Frame) (state state' : EvalState) (meter meter' : Meter) → makefile ≡ makefile' → frames ≡ frames' → state ≡ state' → meter ≡ meter'
-    → (let point : Point = record { makefile = makefile; frames = frames; state = state; meter = meter } in point) ≡ record { makefile = makefile'; frames = frames'; state = state'; meter = meter' }
+pub point-is : (makefile makefile' : List ℕ) (frames frames' : List Frame) (state state' : EvalState) (meter meter' : Meter)
+    → makefile ≡ makefile' → frames ≡ frames' → state ≡ state' → meter ≡ meter'
+    → (let point : Point = record { makefile = makefile; frames = frames; state = state; meter = meter } in point) ≡
+        record { makefile = makefile'; frames = frames'; state = state'; meter = meter' }
 point-is makefile makefile' frames frames' state state' meter meter' one two three four =
     ap (λ makefile. let point : Point = record { makefile = makefile; frames = frames; state = state; meter = meter } in point) one
     ∙ ap (λ frames. let point : Point = record { makefile = makefile'; frames = frames; state = state; meter = meter } in point) two

@@ -1,5 +1,6 @@
 -- Which lines are blank.
-use Rattle.std.proofs.Common.{◌≡◌, ◌∙◌, ◌==◌, ℕ, Bool, true, false, List, [], ◌∷◌, ◌++◌, length, reverse, Option, Some, None, option_map, unwrap_or, cond, refl, sym, ap, subst, arith}
+use Rattle.std.proofs.Common.{◌≡◌, ◌∙◌, ◌==◌, ℕ, Bool, true, false, List, [], ◌∷◌, ◌++◌, length, reverse, Option, Some, None, option_map}
+use Rattle.std.proofs.Common.{unwrap_or, cond, refl, sym, ap, subst, arith}
 use Rattle.std.proofs.lemmas.Bool.Decides.{nat_tests}
 use Rattle.std.proofs.lemmas.List.{reverse-append, length-reverse}
 use Rattle.std.specs.List.{list_any, position}
@@ -8,7 +9,9 @@ use Rattle.mk_ref.specs.Outside.{outside}
 use Rattle.mk_text.specs.Blanks.{is_blank, skip_blanks, trim_blanks}
 use Rattle.mk_ast.specs.declared.kinds.Directive.{Directive}
 use Rattle.mk_ast.specs.declared.kinds.Operator.{Operator}
-use Rattle.mk_ast.specs.Kinds.{TextLineKind, CommandLine, BlankLine, DirectiveLine, AssignmentLine, DependencyLine, BadLine, is_command, is_blank_line, directive_after_dot, directive_in, assignment_at, assignment_in, is_mark, kind_among, plain_kind, line_kind}
+use Rattle.mk_ast.specs.Kinds.{TextLineKind, CommandLine, BlankLine, DirectiveLine, AssignmentLine, DependencyLine, BadLine, is_command}
+use Rattle.mk_ast.specs.Kinds.{is_blank_line, directive_after_dot, directive_in, assignment_at, assignment_in, is_mark, kind_among}
+use Rattle.mk_ast.specs.Kinds.{plain_kind, line_kind}
 
 abbrev NotBlank : TextLineKind → Type 0
 NotBlank BlankLine = ⊥
@@ -28,9 +31,11 @@ named rest (Some word) = tt
 
 pub directive : (text : List ℕ) → NotBlankIn (directive_in text)
 directive [] = tt
-directive (b ∷ rest) = elim (b == 46) as (λ test. NotBlankIn (cond test (directive_after_dot (skip_blanks rest)) None)) [ true ↦ named _ _ | false ↦ tt ]
+directive (b ∷ rest) = elim (b == 46) as (λ test. NotBlankIn (cond test (directive_after_dot (skip_blanks rest)) None))
+    [ true ↦ named _ _ | false ↦ tt ]
 
-found : (text : List ℕ) (at : ℕ) (test : Bool) (operator : Operator) (name value : List ℕ) → NotBlankIn (cond test (Some (AssignmentLine operator name value)) None)
+found : (text : List ℕ) (at : ℕ) (test : Bool) (operator : Operator) (name value : List ℕ)
+    → NotBlankIn (cond test (Some (AssignmentLine operator name value)) None)
 found text at true operator name value = tt
 found text at false operator name value = tt
 
@@ -43,18 +48,21 @@ among None true found = tt
 among None false found = tt
 among (Some kind) mark found = found
 
-plain-kind : (text : List ℕ) (blank : Bool) → is_blank_line text ≡ blank → plain_kind text ≡ cond blank BlankLine (kind_among (assignment_in text) (list_any is_mark (outside text)))
+plain-kind : (text : List ℕ) (blank : Bool) → is_blank_line text ≡ blank → plain_kind text ≡ cond blank BlankLine
+    (kind_among (assignment_in text) (list_any is_mark (outside text)))
 unfolding plain_kind
 plain-kind text blank is = ap (λ b. cond b BlankLine (kind_among (assignment_in text) (list_any is_mark (outside text)))) is
 
 plainly : (text : List ℕ) → is_blank_line text ≡ false → NotBlank (plain_kind text)
-plainly text is = subst NotBlank (sym (plain-kind text false is)) (among (assignment_in text) _ (assignment text (position (λ b. b == 61) (outside text))))
+plainly text is = subst NotBlank (sym (plain-kind text false is))
+    (among (assignment_in text) _ (assignment text (position (λ b. b == 61) (outside text))))
 
 either : (found : Option TextLineKind) (kind : TextLineKind) → NotBlankIn found → NotBlank kind → NotBlank (unwrap_or found kind)
 either None kind found other = other
 either (Some one) kind found other = found
 
-line-kind : (text : List ℕ) (command : Bool) → is_command text ≡ command → line_kind text ≡ cond command CommandLine (unwrap_or (directive_in text) (plain_kind text))
+line-kind : (text : List ℕ) (command : Bool) → is_command text ≡ command → line_kind text ≡ cond command CommandLine
+    (unwrap_or (directive_in text) (plain_kind text))
 unfolding line_kind
 line-kind text command is = ap (λ b. cond b CommandLine (unwrap_or (directive_in text) (plain_kind text))) is
 
@@ -71,12 +79,14 @@ other-isn't text is =
     let cases : (command : Bool) → is_command text ≡ command → NotBlank (line_kind text) =
     λ command. elim command as (λ command. is_command text ≡ command → NotBlank (line_kind text)) [
       | true ↦ λ same. subst NotBlank (sym (line-kind text true same)) tt
-      | false ↦ λ same. subst NotBlank (sym (line-kind text false same)) (either (directive_in text) (plain_kind text) (directive text) (plainly text is))
+      | false ↦ λ same. subst NotBlank (sym (line-kind text false same))
+          (either (directive_in text) (plain_kind text) (directive text) (plainly text is))
     ] in
     isn't (line_kind text) (cases (is_command text) refl)
 
 -- a byte that isn't blank stays
-kept : (x : ℕ) (rest : List ℕ) (blank : Bool) → (length (skip_blanks rest) ≡ 0 → ⊥) → length (cond blank (skip_blanks rest) (x ∷ rest)) ≡ 0 → ⊥
+kept : (x : ℕ) (rest : List ℕ) (blank : Bool) → (length (skip_blanks rest) ≡ 0 → ⊥) → length (cond blank (skip_blanks rest) (x ∷ rest)) ≡ 0
+    → ⊥
 kept x rest true left = left
 kept x rest false left = λ is. omega (arith, is)
 
@@ -102,6 +112,7 @@ blank-is (b ∷ rest) command is =
     let cases : (dot : Bool) → (b == 46) ≡ dot → unwrap_or (directive_in (b ∷ rest)) (plain_kind (b ∷ rest)) ≡ BlankLine =
     λ dot. elim dot as (λ dot. (b == 46) ≡ dot → unwrap_or (directive_in (b ∷ rest)) (plain_kind (b ∷ rest)) ≡ BlankLine) [
       | true ↦ λ same. absurd (dotted rest (subst (λ (b : ℕ). length (trim_blanks (b ∷ rest)) ≡ 0) (equal b 46 same) (equal _ 0 is)))
-      | false ↦ λ same. ap (λ test. unwrap_or (cond test (directive_after_dot (skip_blanks rest)) None) (plain_kind (b ∷ rest))) same ∙ plain-kind (b ∷ rest) true is
+      | false ↦ λ same. ap (λ test. unwrap_or (cond test (directive_after_dot (skip_blanks rest)) None) (plain_kind (b ∷ rest))) same
+          ∙ plain-kind (b ∷ rest) true is
     ] in
     line-kind (b ∷ rest) false command ∙ cases (b == 46) refl

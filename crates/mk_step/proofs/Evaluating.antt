@@ -23,7 +23,8 @@ use Rattle.mk_step.specs.declared.machine.Machine.{Machine}
 use Rattle.mk_step.specs.declared.machine.Turned.{Turned}
 use Rattle.mk_step.specs.declared.machine.Turned.TheVariants.{More, Done}
 
-cost-beside : (log : Option (List Question)) (r : Result (EvalState × Meter) (FaultAt × Meter)) → cost_of (evaluated (beside log r)) ≡ (left r).spent
+cost-beside : (log : Option (List Question)) (r : Result (EvalState × Meter) (FaultAt × Meter))
+    → cost_of (evaluated (beside log r)) ≡ (left r).spent
 cost-beside log (Ok end) = refl
 cost-beside log (Err end) = refl
 
@@ -35,12 +36,14 @@ module _ (files : FileMap) (settings : Settings) (name : List ℕ) (flavors : Op
   pub costs-within : cost_of (means (files, settings) name flavors) ≤ UNITS
   costs-within =
       let cost : cost_of (means (files, settings) name flavors) ≡ (left (whole.ends (full UNITS))).spent =
-      ap (λ end. cost_of (evaluated end)) (whole.is (full UNITS) None) ∙ cost-beside (with_questions None (whole.asks (full UNITS))) (whole.ends (full UNITS)) in
+      ap (λ end. cost_of (evaluated end)) (whole.is (full UNITS) None) ∙ cost-beside (with_questions None (whole.asks (full UNITS)))
+          (whole.ends (full UNITS)) in
       omega (arith, cost, whole.steady.within (full UNITS) (omega arith))
 
 module _ (may : FilesFault → Type 0) (old new : FilesView) (settings : Settings) (name : List ℕ) (flavors : Option (List (List ℕ))) where
   -- what a whole evaluation leaves, by what it means
-  pub asked-all : (answer : Result Evaluated Failed) → means (old.files, settings) name flavors ≡ answer → AsksMore old new (λ more. questions_of old.files settings name flavors ≡ [] ++ more)
+  pub asked-all : (answer : Result Evaluated Failed) → means (old.files, settings) name flavors ≡ answer
+      → AsksMore old new (λ more. questions_of old.files settings name flavors ≡ [] ++ more)
       → new ≡ noted old (questions_asked (old.files, settings) name flavors (cost_of answer))
   asked-all answer is leaves =
       leaves.noted ∙ ap (noted old) (sym leaves.so ∙ ap (λ answer. questions_asked (old.files, settings) name flavors (cost_of answer)) is)
@@ -49,7 +52,8 @@ module _ (may : FilesFault → Type 0) (old new : FilesView) (settings : Setting
   costs-as answer is = subst (λ answer. cost_of answer ≤ UNITS) is (costs-within old.files settings name flavors)
 
   -- a turn after the beginning
-  module _ (middle : FilesView) (machine : Machine) (begun : AsksMore old middle (λ more. IsUnderWay (old.files, settings) name flavors ([] ++ more) machine)) where
+  module _ (middle : FilesView) (machine : Machine)
+      (begun : AsksMore old middle (λ more. IsUnderWay (old.files, settings) name flavors ([] ++ more) machine)) where
     same-files : middle.files ≡ old.files
     same-files = ap (λ (view : FilesView). view.files) begun.noted
 
@@ -62,10 +66,12 @@ module _ (may : FilesFault → Type 0) (old new : FilesView) (settings : Setting
     joined : (more : List Question) → new ≡ noted middle more → new ≡ noted old (first ++ more)
     joined more is = is ∙ ap (λ view. noted view more) begun.noted ∙ noted-twice old first more
 
-    pub turned-tells : (result : Result Turned FilesFault) → TellsIfDone result (means (middle.files, settings) name flavors) → TellsIfDone result (means (old.files, settings) name flavors)
+    pub turned-tells : (result : Result Turned FilesFault) → TellsIfDone result (means (middle.files, settings) name flavors)
+        → TellsIfDone result (means (old.files, settings) name flavors)
     turned-tells result tells = subst (λ files. TellsIfDone result (means (files, settings) name flavors)) same-files tells
 
-    pub turned-leaves : (result : Result Turned FilesFault) → Leaves may middle new (middle.files, settings) name flavors first result → Leaves may old new (old.files, settings) name flavors [] result
+    pub turned-leaves : (result : Result Turned FilesFault) → Leaves may middle new (middle.files, settings) name flavors first result
+        → Leaves may old new (old.files, settings) name flavors [] result
     turned-leaves (Ok (More after)) leaves = record {
       more = first ++ leaves.more;
       so = subst (λ files. IsUnderWay (files, settings) name flavors (first ++ leaves.more) after) same-files leaves.so;
@@ -77,7 +83,8 @@ module _ (may : FilesFault → Type 0) (old new : FilesView) (settings : Setting
       noted = joined leaves.more leaves.noted;
     }
     turned-leaves (Err fault) leaves =
-        let stop : Stop FaultAt = stop_of fault in LeavesAtStop-on may old middle new stop (record { questions = first; in_log = begun.noted }) leaves
+        let stop : Stop FaultAt = stop_of fault in LeavesAtStop-on may old middle new stop
+            (record { questions = first; in_log = begun.noted }) leaves
 
 -- what was spent, once more was spent than at the beginning
 pub has-spent : (old units : ℕ) (result : Result Turned FilesFault) → HasSpent (old + units) result → old ≡ 0 → HasSpent units result
@@ -85,7 +92,8 @@ has-spent old units (Ok (More machine)) spent none = omega (arith, spent, none)
 has-spent old units (Ok (Done answer)) spent none = tt
 has-spent old units (Err fault) spent none = tt
 
-pub spends-has : (files : FileMap) (units : ℕ) (old : Machine) (result : Result Turned FilesFault) → Spends files units old result → HasSpent (old.budget.spent + units) result
+pub spends-has : (files : FileMap) (units : ℕ) (old : Machine) (result : Result Turned FilesFault) → Spends files units old result
+    → HasSpent (old.budget.spent + units) result
 spends-has files units old (Ok (More machine)) spends = spends.0
 spends-has files units old (Ok (Done answer)) spends = tt
 spends-has files units old (Err fault) spends = tt

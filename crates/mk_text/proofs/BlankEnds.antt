@@ -1,12 +1,15 @@
 -- What `trim_start_matches` and `trim_end_matches` give at blanks.
-use Rattle.std.proofs.Common.{◌≡◌, ℕ, ◌-◌, ◌<◌, ◌≤◌, Bool, true, false, ◌||◌, eqb, ◌⊎◌, ⊎_elim, inl, inr, List, [], ◌∷◌, ◌++◌, reverse, length, take, drop, Option, Some, None, IfSome, refl, sym, ap, ap₂, subst, ◌∙◌, arith, take-append-drop, eqb-true, eq-eqb, ne_eqb}
+use Rattle.std.proofs.Common.{◌≡◌, ℕ, ◌-◌, ◌<◌, ◌≤◌, Bool, true, false, ◌||◌, eqb, ◌⊎◌, ⊎_elim, inl, inr, List, [], ◌∷◌, ◌++◌, reverse}
+use Rattle.std.proofs.Common.{length, take, drop, Option, Some, None, IfSome, refl, sym, ap, ap₂, subst, ◌∙◌, arith, take-append-drop}
+use Rattle.std.proofs.Common.{eqb-true, eq-eqb, ne_eqb}
 use Rattle.std.proofs.Math.Seq.{drop-length}
 use Rattle.std.proofs.lemmas.Bool.{cases_Bool, cases_eq, both_ways, or_cases, cond-true, cond-false}
 use Rattle.std.proofs.lemmas.List.{length-reverse, reverse-append, reverse-reverse}
 use Rattle.std.proofs.lemmas.Str.{encode_ascii, len_utf8_bounds}
 use Rattle.std.proofs.lemmas.Str.Pattern.{drop_at_char}
 use Rattle.std.specs.Char.{IsScalar, char_set_contains}
-use Rattle.std.specs.Str.Pattern.{FindsPrefixBy, FindsSuffixBy, HasPassingCharAt, CutsPrefixes, CutsSuffixes, IsTrimStartMatches, IsTrimEndMatches}
+use Rattle.std.specs.Str.Pattern.{FindsPrefixBy, FindsSuffixBy, HasPassingCharAt, CutsPrefixes, CutsSuffixes, IsTrimStartMatches}
+use Rattle.std.specs.Str.Pattern.{IsTrimEndMatches}
 use Rattle.std.proofs.Math.Bool.{or-false}
 use Rattle.mk_text.specs.Blanks.{is_blank, skip_blanks, trim_blanks}
 
@@ -54,7 +57,8 @@ skip_done : (r : List ℕ) (o : Option ℕ) → Prefixes r o → IfSome o (λ n.
 skip_done [] o gives none = refl
 skip_done (b ∷ rest) None gives none =
     ⊎_elim
-    (λ t. absurd (both_ways (is_blank b) (gives is_blank blank_set b rest (blank_scalar b t) (ap (λ l. l ++ rest) (sym (encode_ascii b (blank_below b t))))) t))
+    (λ t. absurd (both_ways (is_blank b)
+        (gives is_blank blank_set b rest (blank_scalar b t) (ap (λ l. l ++ rest) (sym (encode_ascii b (blank_below b t))))) t))
     (λ f. skip_stops b rest f)
     (cases_Bool (is_blank b))
 skip_done (b ∷ rest) (Some n) gives none =

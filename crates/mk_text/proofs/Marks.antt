@@ -1,5 +1,6 @@
 -- Source lines that end in a backslash.
-use Rattle.std.proofs.Common.{◌≡◌, ◌≢◌, ℕ, ◌-◌, ◌≤◌, Bool, true, false, List, [], ◌∷◌, ◌++◌, length, take, Some, None, MatchBool, IsCharBoundary, refl, sym, ap, ◌∙◌, arith, lit<, length-append, take_at, drop_at}
+use Rattle.std.proofs.Common.{◌≡◌, ◌≢◌, ℕ, ◌-◌, ◌≤◌, Bool, true, false, List, [], ◌∷◌, ◌++◌, length, take, Some, None, MatchBool}
+use Rattle.std.proofs.Common.{IsCharBoundary, refl, sym, ap, ◌∙◌, arith, lit<, length-append, take_at, drop_at}
 use Rattle.std.proofs.lemmas.Bool.{cond-true, cond-false, true≢false}
 use Rattle.std.proofs.lemmas.Str.Pattern.{ends_text, ends_char}
 use Rattle.std.specs.Str.Pattern.{FindsCharSuffix}
@@ -23,7 +24,8 @@ goes_on-from_ends s false h = sym (goes_on-plain s (λ front e. true≢false (sy
 
 pub unmarked-marked : (front : List ℕ) → unmarked (front ++ 92 ∷ []) ≡ front
 unmarked-marked front =
-    cond-true (goes_on (front ++ 92 ∷ [])) (take (length (front ++ 92 ∷ []) - 1) (front ++ 92 ∷ [])) (front ++ 92 ∷ []) (goes_on-marked front)
+    cond-true (goes_on (front ++ 92 ∷ [])) (take (length (front ++ 92 ∷ []) - 1) (front ++ 92 ∷ []))
+        (front ++ 92 ∷ []) (goes_on-marked front)
     ∙ take_at front (92 ∷ []) (length (front ++ 92 ∷ []) - 1) (one_less front)
 
 pub unmarked-plain : (s : List ℕ) → goes_on s ≡ false → unmarked s ≡ s

@@ -1,5 +1,6 @@
 -- The logical lines of the source lines that are left, from a run that is open or from none.
-use Rattle.std.proofs.Common.{◌≡◌, ℕ, suc, ◌+◌, true, false, List, [], ◌∷◌, ◌++◌, length, flat_map, Option, Some, None, Bor, eqb, string_bytes, ◌≤◌, lit<, refl, sym, ap, ap₂, ◌∙◌, arith, append_assoc, append-nil}
+use Rattle.std.proofs.Common.{◌≡◌, ℕ, suc, ◌+◌, true, false, List, [], ◌∷◌, ◌++◌, length, flat_map, Option, Some, None, Bor, eqb}
+use Rattle.std.proofs.Common.{string_bytes, ◌≤◌, lit<, refl, sym, ap, ap₂, ◌∙◌, arith, append_assoc, append-nil}
 use Rattle.std.proofs.lemmas.Bool.{cond-true, cond-false}
 use Rattle.std.proofs.lemmas.Iterator.Splits.{YieldsList-from_str_split}
 use Rattle.std.proofs.lemmas.List.Splits.{length-slice_split}
@@ -25,7 +26,8 @@ onto line text number (run ∷ rest) = line_at line (text ++ flat_map continued 
 abbrev pub resumed : ℕ → List ℕ → ℕ → List (List ℕ) → List LogicalLine
 resumed line text number pieces = onto line text number (runs_of pieces)
 
-begun : (piece : List ℕ) (number : ℕ) (runs : List (List (List ℕ))) → lines_from (number + 1) (onto_first piece runs) ≡ onto (number + 1) (unmarked piece) (number + 1) runs
+begun : (piece : List ℕ) (number : ℕ) (runs : List (List (List ℕ))) → lines_from (number + 1) (onto_first piece runs) ≡ onto (number + 1)
+    (unmarked piece) (number + 1) runs
 begun piece number [] = ap (λ t. line_at (number + 1) t ∷ []) (append-nil (unmarked piece))
 begun piece number (run ∷ rest) =
     let count : number + 1 + suc (length run) ≡ number + 1 + length run + 1 = omega arith in
@@ -36,7 +38,8 @@ more : (line : ℕ) (text piece : List ℕ) (number : ℕ) (runs : List (List (L
 more line text piece number [] = ap (λ t. line_at line (text ++ t) ∷ []) (append-nil (continued piece))
 more line text piece number (run ∷ rest) =
     let count : number + suc (length run) + 1 ≡ number + 1 + length run + 1 = omega arith in
-    ap (λ t. line_at line t ∷ lines_from (number + suc (length run) + 1) rest) (sym (append_assoc text (continued piece) (flat_map continued run)))
+    ap (λ t. line_at line t ∷ lines_from (number + suc (length run) + 1) rest)
+        (sym (append_assoc text (continued piece) (flat_map continued run)))
     ∙ ap (λ n. line_at line ((text ++ continued piece) ++ flat_map continued run) ∷ lines_from n rest) count
 
 -- a source line that begins a run and goes on
@@ -68,11 +71,13 @@ resumed-last line text number piece pieces h =
     ∙ ap (λ t. line_at line (text ++ t) ∷ fresh (number + 1) pieces) (append-nil (continued piece))
 
 -- what a `None` says of the pieces that are left, and what a `Some`
-pub none_left : {S A B : Type 0} (steps : S → Option A → S → Type 0) (v : A → B) (s t : S) (left : List B) → AlwaysYields steps v s left → steps s None t → left ≡ []
+pub none_left : {S A B : Type 0} (steps : S → Option A → S → Type 0) (v : A → B) (s t : S) (left : List B) → AlwaysYields steps v s left
+    → steps s None t → left ≡ []
 none_left steps v s t [] h k = refl
 none_left steps v s t (y ∷ ys) h k = absurd (h.0 t k)
 
-pub some_left : {S A B : Type 0} (steps : S → Option A → S → Type 0) (v : A → B) (s t : S) (x : A) (left : List B) → AlwaysYields steps v s left → steps s (Some x) t
+pub some_left : {S A B : Type 0} (steps : S → Option A → S → Type 0) (v : A → B) (s t : S) (x : A) (left : List B)
+    → AlwaysYields steps v s left → steps s (Some x) t
     → (rest : List B) × (left ≡ v x ∷ rest) × AlwaysYields steps v t rest
 some_left steps v s t x [] h k = absurd (h x t k)
 some_left steps v s t x (y ∷ ys) h k = (ys, ap (λ z. z ∷ ys) (sym (h.1 x t k).0), (h.1 x t k).1)
@@ -93,7 +98,8 @@ pub record LinesSoFar (text : List ℕ) (made : List LogicalLine) (run : Option 
   pub lines : made ++ pending run number left ≡ logical_lines text
   pub count : number + length left ≤ length text + 1
 
-pub so_far-none : (text : List ℕ) (pieces : Split ℕ) → split_text pieces ≡ text → split_has_more pieces ≡ true → split_pattern pieces ≡ 10 → LinesSoFar text [] None 0 pieces
+pub so_far-none : (text : List ℕ) (pieces : Split ℕ) → split_text pieces ≡ text → split_has_more pieces ≡ true → split_pattern pieces ≡ 10
+    → LinesSoFar text [] None 0 pieces
 unfolding logical_lines
 so_far-none text pieces t m p = record {
   left = slice_split (λ b. eqb b 10) text;
@@ -105,16 +111,20 @@ so_far-none text pieces t m p = record {
 -- the run with one more source line: of an open run, or one that begins
 abbrev pub Extends : Option Run → ℕ → List ℕ → Run → Type 0
 Extends None number piece run = (string_bytes run.joined ≡ unmarked piece) × (run.line ≡ number + 1)
-Extends (Some before) number piece run = (string_bytes run.joined ≡ string_bytes before.joined ++ continued piece) × (run.line ≡ before.line)
+Extends (Some before) number piece run = (string_bytes run.joined ≡ string_bytes before.joined ++ continued piece)
+    × (run.line ≡ before.line)
 
-pending-open : (o : Option Run) (number : ℕ) (piece : List ℕ) (run : Run) (rest : List (List ℕ)) → Extends o number piece run → goes_on piece ≡ true
+pending-open : (o : Option Run) (number : ℕ) (piece : List ℕ) (run : Run) (rest : List (List ℕ))
+    → Extends o number piece run → goes_on piece ≡ true
     → pending o number (piece ∷ rest) ≡ pending (Some run) (number + 1) rest
 pending-open None number piece run rest h t =
     fresh-open number piece rest t ∙ ap₂ (λ line text. resumed line text (number + 1) rest) (sym h.1) (sym h.0)
 pending-open (Some before) number piece run rest h t =
-    resumed-open before.line (string_bytes before.joined) number piece rest t ∙ ap₂ (λ line text. resumed line text (number + 1) rest) (sym h.1) (sym h.0)
+    resumed-open before.line (string_bytes before.joined) number piece rest t
+        ∙ ap₂ (λ line text. resumed line text (number + 1) rest) (sym h.1) (sym h.0)
 
-pending-last : (o : Option Run) (number : ℕ) (piece : List ℕ) (run : Run) (rest : List (List ℕ)) → Extends o number piece run → goes_on piece ≡ false
+pending-last : (o : Option Run) (number : ℕ) (piece : List ℕ) (run : Run) (rest : List (List ℕ))
+    → Extends o number piece run → goes_on piece ≡ false
     → pending o number (piece ∷ rest) ≡ line_at run.line (string_bytes run.joined) ∷ pending None (number + 1) rest
 pending-last None number piece run rest h f =
     fresh-whole number piece rest f
@@ -137,7 +147,8 @@ module _ (text : List ℕ) (made : List LogicalLine) (o : Option Run) (number : 
   so_far-open run e marked = record {
     left = next_left.0;
     yields = next_left.2;
-    lines = ap (λ l. made ++ l) (sym (ap (pending o number) next_left.1 ∙ pending-open o number piece.now run next_left.0 e marked)) ∙ h.lines;
+    lines = ap (λ l. made ++ l) (sym (ap (pending o number) next_left.1 ∙ pending-open o number piece.now run next_left.0 e marked))
+        ∙ h.lines;
     count = omega (arith, h.count, ap length next_left.1);
   }
 
@@ -155,8 +166,10 @@ module _ (text : List ℕ) (made : List LogicalLine) (o : Option Run) (number : 
 module _ (text : List ℕ) (made : List LogicalLine) (number : ℕ) (s t : Split ℕ) (k : cuts s None t) where
   -- at the end with no open run
   pub all-closed : LinesSoFar text made None number s → made ≡ logical_lines text
-  all-closed h = sym (append-nil made) ∙ ap (λ l. made ++ pending None number l) (sym (none_left cuts (λ x. x.now) s t h.left h.yields k)) ∙ h.lines
+  all-closed h = sym (append-nil made) ∙ ap (λ l. made ++ pending None number l) (sym (none_left cuts (λ x. x.now) s t h.left h.yields k))
+      ∙ h.lines
 
   -- at the end with an open run
-  pub all-open : (run : Run) → LinesSoFar text made (Some run) number s → made ++ line_at run.line (string_bytes run.joined) ∷ [] ≡ logical_lines text
+  pub all-open : (run : Run) → LinesSoFar text made (Some run) number s → made ++ line_at run.line (string_bytes run.joined)
+      ∷ [] ≡ logical_lines text
   all-open run h = ap (λ l. made ++ pending (Some run) number l) (sym (none_left cuts (λ x. x.now) s t h.left h.yields k)) ∙ h.lines

@@ -1,5 +1,7 @@
 -- The words of a text, as far as they are found.
-use Rattle.std.proofs.Common.{◌≡◌, ℕ, ◌+◌, ◌-◌, ◌<◌, ◌≤◌, Bool, true, false, cond, nat_lt, List, [], ◌∷◌, ◌++◌, map, filter, length, get_or, take, drop, All, IsUtf8, IsCharBoundary, ⊎_elim, refl, sym, ap, ◌∙◌, arith, take-append-drop, get_or-take, get_or-drop, length-take, length-drop, drop-drop, append_assoc, append-nil, lt-ltb, le-ltb}
+use Rattle.std.proofs.Common.{◌≡◌, ℕ, ◌+◌, ◌-◌, ◌<◌, ◌≤◌, Bool, true, false, cond, nat_lt, List, [], ◌∷◌, ◌++◌, map, filter, length, get_or}
+use Rattle.std.proofs.Common.{take, drop, All, IsUtf8, IsCharBoundary, ⊎_elim, refl, sym, ap, ◌∙◌, arith, take-append-drop, get_or-take}
+use Rattle.std.proofs.Common.{get_or-drop, length-take, length-drop, drop-drop, append_assoc, append-nil, lt-ltb, le-ltb}
 use Rattle.std.proofs.lemmas.Bool.{cond-true, cond-false, cases_eq}
 use Rattle.std.proofs.lemmas.List.{drop_more, map-append, take_rest}
 use Rattle.std.proofs.lemmas.List.Elements.{All-from_get_or, All-nil, All-push}
@@ -65,16 +67,19 @@ cut_at text start at ordered near plain blank =
     ∙ slice_split_at is_blank (part text start at) (get_or text at 0) (drop (at + 1) text) (part_plain text start at ordered le plain) blank
 
 spans_at : (text : List ℕ) (start at : ℕ) → start ≤ at → at < length text → NoBlank text start at → is_blank (get_or text at 0) ≡ true
-    → words_from text start ≡ cond (nat_lt start at) (record { start = start; end = at } ∷ words_from text (at + 1)) (words_from text (at + 1))
+    → words_from text start ≡ cond (nat_lt start at) (record { start = start; end = at } ∷ words_from text (at + 1))
+        (words_from text (at + 1))
 spans_at text start at ordered near plain blank =
     let rest : List (List ℕ) = slice_split is_blank (drop (at + 1) text) in
     let test : Span → Bool = λ span. nat_lt span.start span.end in
     ap (λ l. filter test (places_from start l)) (cut_at text start at ordered near plain blank)
-    ∙ ap (λ n. cond (nat_lt start n) (record { start = start; end = n } ∷ filter test (places_from (n + 1) rest)) (filter test (places_from (n + 1) rest)))
+    ∙ ap (λ n. cond (nat_lt start n) (record { start = start; end = n } ∷ filter test (places_from (n + 1) rest))
+        (filter test (places_from (n + 1) rest)))
     (part_end text start at ordered (omega arith))
 
 texts_at : (text : List ℕ) (start at : ℕ) → start ≤ at → at < length text → NoBlank text start at → is_blank (get_or text at 0) ≡ true
-    → words_of (drop start text) ≡ cond (nat_lt 0 (at - start)) (part text start at ∷ words_of (drop (at + 1) text)) (words_of (drop (at + 1) text))
+    → words_of (drop start text) ≡ cond (nat_lt 0 (at - start)) (part text start at ∷ words_of (drop (at + 1) text))
+        (words_of (drop (at + 1) text))
 unfolding words_of
 texts_at text start at ordered near plain blank =
     ap (filter (λ piece. nat_lt 0 (length piece))) (cut_at text start at ordered near plain blank)
@@ -117,18 +122,21 @@ pub so_far-word : (text : List ℕ) (found : List Span) (start at : ℕ) → Wor
 so_far-word text found start at h utf8 near blank some =
     let span : Span = record { start = start; end = at } in
     let spans : words_from text start ≡ span ∷ words_from text (at + 1) =
-    spans_at text start at h.ordered near h.unbroken blank ∙ cond-true (nat_lt start at) (span ∷ words_from text (at + 1)) (words_from text (at + 1)) (lt-ltb start at some) in
+    spans_at text start at h.ordered near h.unbroken blank ∙ cond-true (nat_lt start at) (span ∷ words_from text (at + 1))
+        (words_from text (at + 1)) (lt-ltb start at some) in
     let apart : 0 < at - start = omega arith in
     let texts : words_of (drop start text) ≡ part text start at ∷ words_of (drop (at + 1) text) =
     texts_at text start at h.ordered near h.unbroken blank
-    ∙ cond-true (nat_lt 0 (at - start)) (part text start at ∷ words_of (drop (at + 1) text)) (words_of (drop (at + 1) text)) (lt-ltb 0 (at - start) apart) in
+    ∙ cond-true (nat_lt 0 (at - start)) (part text start at ∷ words_of (drop (at + 1) text)) (words_of (drop (at + 1) text))
+        (lt-ltb 0 (at - start) apart) in
     let ascii : get_or text at 0 < 128 = blank_below (get_or text at 0) blank in
     record {
       spans = append_assoc found (span ∷ []) (words_from text (at + 1)) ∙ ap (λ l. found ++ l) (sym spans) ∙ h.spans;
       texts = ap (λ l. l ++ words_of (drop (at + 1) text)) (map-append (span_text text) found (span ∷ []))
           ∙ append_assoc (map (span_text text) found) (part text start at ∷ []) (words_of (drop (at + 1) text))
           ∙ ap (λ l. map (span_text text) found ++ l) (sym texts) ∙ h.texts;
-      within = All-push (IsSpanOf text) found span h.within (record { ordered = h.ordered; starts = h.starts; ends = IsCharBoundary-before_ascii text at near ascii });
+      within = All-push (IsSpanOf text) found span h.within
+          (record { ordered = h.ordered; starts = h.starts; ends = IsCharBoundary-before_ascii text at near ascii });
       starts = IsCharBoundary-after_ascii text at utf8 near ascii;
       ordered = omega arith;
       unbroken = no_blank_yet text (at + 1);
@@ -143,11 +151,13 @@ so_far-gap text found start at h utf8 near blank none =
     record {
       spans = ap (λ l. found ++ l)
           (sym (spans_at text start at h.ordered near h.unbroken blank
-          ∙ cond-false (nat_lt start at) (record { start = start; end = at } ∷ words_from text (at + 1)) (words_from text (at + 1)) (le-ltb start at none)))
+          ∙ cond-false (nat_lt start at) (record { start = start; end = at } ∷ words_from text (at + 1)) (words_from text (at + 1))
+              (le-ltb start at none)))
           ∙ h.spans;
       texts = ap (λ l. map (span_text text) found ++ l)
           (sym (texts_at text start at h.ordered near h.unbroken blank
-          ∙ cond-false (nat_lt 0 (at - start)) (part text start at ∷ words_of (drop (at + 1) text)) (words_of (drop (at + 1) text)) (le-ltb 0 (at - start) empty)))
+          ∙ cond-false (nat_lt 0 (at - start)) (part text start at ∷ words_of (drop (at + 1) text)) (words_of (drop (at + 1) text))
+              (le-ltb 0 (at - start) empty)))
           ∙ h.texts;
       within = h.within;
       starts = IsCharBoundary-after_ascii text at utf8 near ascii;
@@ -156,10 +166,12 @@ so_far-gap text found start at h utf8 near blank none =
     }
 
 -- the piece at the end of the text
-last_piece : (text : List ℕ) (start : ℕ) → start ≤ length text → NoBlank text start (length text) → slice_split is_blank (drop start text) ≡ part text start (length text) ∷ []
+last_piece : (text : List ℕ) (start : ℕ) → start ≤ length text → NoBlank text start (length text) → slice_split is_blank (drop start text) ≡
+    part text start (length text) ∷ []
 last_piece text start le plain =
     let whole : part text start (length text) ≡ drop start text = take_rest text start in
-    ap (slice_split is_blank) (sym whole) ∙ slice_split_none is_blank (part text start (length text)) (part_plain text start (length text) le (omega arith) plain)
+    ap (slice_split is_blank) (sym whole) ∙ slice_split_none is_blank (part text start (length text))
+        (part_plain text start (length text) le (omega arith) plain)
 
 spans_end : (text : List ℕ) (start : ℕ) → start ≤ length text → NoBlank text start (length text)
     → words_from text start ≡ cond (nat_lt start (length text)) (record { start = start; end = length text } ∷ []) []
@@ -184,24 +196,30 @@ all-word text found start h some =
     let spans : words_from text start ≡ span ∷ [] =
     spans_end text start h.ordered h.unbroken ∙ cond-true (nat_lt start (length text)) (span ∷ []) [] (lt-ltb start (length text) some) in
     let texts : words_of (drop start text) ≡ part text start (length text) ∷ [] =
-    texts_end text start h.ordered h.unbroken ∙ cond-true (nat_lt 0 (length text - start)) (part text start (length text) ∷ []) [] (lt-ltb 0 (length text - start) apart) in
+    texts_end text start h.ordered h.unbroken ∙ cond-true (nat_lt 0 (length text - start)) (part text start (length text) ∷ []) []
+        (lt-ltb 0 (length text - start) apart) in
     record {
       spans = ap (λ l. found ++ l) (sym spans) ∙ h.spans;
       texts = map-append (span_text text) found (span ∷ []) ∙ ap (λ l. map (span_text text) found ++ l) (sym texts) ∙ h.texts;
-      within = All-push (IsSpanOf text) found span h.within (record { ordered = h.ordered; starts = h.starts; ends = IsCharBoundary-end text });
+      within = All-push (IsSpanOf text) found span h.within
+          (record { ordered = h.ordered; starts = h.starts; ends = IsCharBoundary-end text });
     }
 
 -- no word there
-pub all-found : (text : List ℕ) (found : List Span) (start : ℕ) → WordsSoFar text found start (length text) → length text ≤ start → AllWords text found
+pub all-found : (text : List ℕ) (found : List Span) (start : ℕ) → WordsSoFar text found start (length text)
+    → length text ≤ start → AllWords text found
 all-found text found start h none =
     let empty : length text - start ≤ 0 = omega arith in
     record {
       spans = sym (append-nil found)
-          ∙ ap (λ l. found ++ l) (sym (spans_end text start h.ordered h.unbroken ∙ cond-false (nat_lt start (length text)) (record { start = start; end = length text } ∷ []) [] (le-ltb start (length text) none)))
+          ∙ ap (λ l. found ++ l)
+              (sym (spans_end text start h.ordered h.unbroken ∙ cond-false (nat_lt start (length text))
+              (record { start = start; end = length text } ∷ []) [] (le-ltb start (length text) none)))
           ∙ h.spans;
       texts = sym (append-nil (map (span_text text) found))
           ∙ ap (λ l. map (span_text text) found ++ l)
-          (sym (texts_end text start h.ordered h.unbroken ∙ cond-false (nat_lt 0 (length text - start)) (part text start (length text) ∷ []) [] (le-ltb 0 (length text - start) empty)))
+          (sym (texts_end text start h.ordered h.unbroken ∙ cond-false (nat_lt 0 (length text - start)) (part text start (length text) ∷ [])
+              [] (le-ltb 0 (length text - start) empty)))
           ∙ h.texts;
       within = h.within;
     }

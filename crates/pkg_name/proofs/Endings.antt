@@ -1,5 +1,6 @@
 -- Taking the end off a version: a letter and a number.
-use Rattle.std.proofs.Common.{◌≡◌, ◌==◌, ◌-◌, ◌<◌, length, take, drop, get_or, slice_index, ℕ, true, false, cond, ◌&&◌, List, [], ◌∷◌, ◌++◌, None, sym, ap, refl, ◌∙◌, inl, inr, true≢false, arith}
+use Rattle.std.proofs.Common.{◌≡◌, ◌==◌, ◌-◌, ◌<◌, length, take, drop, get_or, slice_index, ℕ, true, false, cond, ◌&&◌, List, [], ◌∷◌, ◌++◌}
+use Rattle.std.proofs.Common.{None, sym, ap, refl, ◌∙◌, inl, inr, true≢false, arith}
 use Rattle.std.proofs.lemmas.Bool.{cases_Bool, and_from, and_left, and_right, eq-eqb, ne_eqb}
 use Rattle.std.proofs.Math.Dec.{eqb-suc-zero}
 use Rattle.std.proofs.Math.Seq.{get_or-append_seam}
@@ -34,7 +35,8 @@ no_number [] byte behind other = and_left (is_ascii_digit byte) (list_all is_asc
 no_number (first ∷ front) byte behind other =
     let rest = and_left (is_ascii_digit byte) (list_all is_ascii_digit behind) other in
     and_right (is_ascii_digit first) (list_all is_ascii_digit (front ++ byte ∷ behind))
-    (list_all-append is_ascii_digit front (byte ∷ behind) ∙ and_right (list_all is_ascii_digit front) (list_all is_ascii_digit (byte ∷ behind)) rest)
+    (list_all-append is_ascii_digit front (byte ∷ behind) ∙ and_right (list_all is_ascii_digit front)
+        (list_all is_ascii_digit (byte ∷ behind)) rest)
 
 -- a text that ends in digits after another byte: its end is taken off if that byte is the letter and there are
 -- digits
@@ -60,7 +62,8 @@ ended_at letter (byte ∷ front) last digits plain other all =
 pub ending_at : (letter start last : ℕ) (text front behind before : List ℕ) → is_ascii_digit letter ≡ false
     → list_all is_ascii_digit (drop start text) ≡ true → (0 < start → is_ascii_digit (slice_index text (start - 1)) ≡ false)
     → front ≡ take start text → behind ≡ drop start text → length front ≡ start → front ≡ before ++ last ∷ []
-    → ended_by letter text ≡ cond (last == letter && is_number behind) (record { before = before; number = number_written behind }) (whole text)
+    → ended_by letter text ≡ cond (last == letter && is_number behind) (record { before = before; number = number_written behind })
+        (whole text)
 ending_at letter start last text front behind before plain all other in_front in_after long cut =
     let joined : before ++ last ∷ behind ≡ text =
     sym (append_assoc before (last ∷ []) behind) ∙ ap (λ f. f ++ behind) (sym cut ∙ in_front)
@@ -77,7 +80,8 @@ ending_at letter start last text front behind before plain all other in_front in
     ∙ ap (λ t. cond (last == letter && is_number behind) (record { before = before; number = number_written behind }) (whole t)) joined
 
 -- digits alone
-pub ending_none : (letter start : ℕ) (text front : List ℕ) → is_ascii_digit letter ≡ false → list_all is_ascii_digit (drop start text) ≡ true
+pub ending_none : (letter start : ℕ) (text front : List ℕ) → is_ascii_digit letter ≡ false
+    → list_all is_ascii_digit (drop start text) ≡ true
     → length front ≡ start → length front ≡ 0 → ended_by letter text ≡ whole text
 ending_none letter start text front plain all long empty =
     let none : start ≡ 0 = sym long ∙ empty in
@@ -94,12 +98,15 @@ number-none (digit ∷ digits) none = absurd (true≢false (sym none ∙ eqb-suc
 
 -- the end that is taken off
 pub ending_taken : (letter last : ℕ) (text behind before : List ℕ)
-    → ended_by letter text ≡ cond (last == letter && is_number behind) (record { before = before; number = number_written behind }) (whole text)
+    → ended_by letter text ≡ cond (last == letter && is_number behind) (record { before = before; number = number_written behind })
+        (whole text)
     → last ≡ letter → is_number behind ≡ true → ended_by letter text ≡ record { before = before; number = number_written behind }
-ending_taken letter last text behind before is same some = is ∙ rw (and_from (last == letter) (is_number behind) (eq-eqb last letter same) some) refl
+ending_taken letter last text behind before is same some = is
+    ∙ rw (and_from (last == letter) (is_number behind) (eq-eqb last letter same) some) refl
 
 -- no end is taken off
 pub ending_kept : (letter last : ℕ) (text behind before : List ℕ)
-    → ended_by letter text ≡ cond (last == letter && is_number behind) (record { before = before; number = number_written behind }) (whole text)
+    → ended_by letter text ≡ cond (last == letter && is_number behind) (record { before = before; number = number_written behind })
+        (whole text)
     → (last == letter && is_number behind) ≡ false → ended_by letter text ≡ whole text
 ending_kept letter last text behind before is other = is ∙ rw other refl

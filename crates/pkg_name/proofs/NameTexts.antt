@@ -12,14 +12,17 @@ use Rattle.general_facts.specs.Ascii.{dash}
 use Rattle.pkg_name.specs.Laws.{NameIsItsText}
 
 -- words with dashes between them, after a dash
-words_joined : (first : List ℕ) (words : List (List ℕ)) → flat_map (λ word. dash ∷ word) (first ∷ words) ≡ dash ∷ join_with_byte dash (first ∷ words)
+words_joined : (first : List ℕ) (words : List (List ℕ)) → flat_map (λ word. dash ∷ word) (first ∷ words) ≡ dash ∷
+    join_with_byte dash (first ∷ words)
 words_joined first [] = ap (λ l. dash ∷ l) (append-nil first)
 words_joined first (next ∷ words) = ap (λ rest. dash ∷ (first ++ rest)) (words_joined next words)
 
 -- the text of a name made of a stem and words
-named : (stem : List ℕ) (words : List (List ℕ)) (parts : NameParts) → name_of stem words ≡ Some parts → name_text parts ≡ stem ++ dash ∷ join_with_byte dash words
+named : (stem : List ℕ) (words : List (List ℕ)) (parts : NameParts) → name_of stem words ≡ Some parts
+    → name_text parts ≡ stem ++ dash ∷ join_with_byte dash words
 named stem [] parts e = cc
-named stem (version ∷ flavors) parts e = elim (cases_Bool (is_stem_or_flavor stem && is_version version && list_all is_stem_or_flavor flavors)) [
+named stem (version ∷ flavors) parts e =
+    elim (cases_Bool (is_stem_or_flavor stem && is_version version && list_all is_stem_or_flavor flavors)) [
   | inl h ↦
       let here = rw h at e in
       let is : parts ≡ record { stem = stem; version = version; flavors = flavors } = cc here in
@@ -29,7 +32,8 @@ named stem (version ∷ flavors) parts e = elim (cases_Bool (is_stem_or_flavor s
 
 -- the same, for a text that is cut or not
 split_text : (text : List ℕ) (found : Option Cut) (parts : NameParts) → at_version text ≡ found
-    → option_and_then (λ cut. name_of cut.before (slice_split (λ byte. byte == dash) cut.behind)) found ≡ Some parts → name_text parts ≡ text
+    → option_and_then (λ cut. name_of cut.before (slice_split (λ byte. byte == dash) cut.behind)) found ≡ Some parts
+    → name_text parts ≡ text
 split_text text None parts is e = cc
 split_text text (Some cut) parts is e =
     named cut.before (slice_split (λ byte. byte == dash) cut.behind) parts e

@@ -1,5 +1,6 @@
 -- The parts between the dots of a text, one after another.
-use Rattle.std.proofs.Common.{◌≡◌, ◌==◌, ◌+◌, ◌-◌, ◌<◌, ◌≤◌, ℕ, suc, Bool, not, List, [], ◌∷◌, map, length, take, drop, false, cond, ap, refl, sym, ◌∙◌, arith, inl, inr, true≢false}
+use Rattle.std.proofs.Common.{◌≡◌, ◌==◌, ◌+◌, ◌-◌, ◌<◌, ◌≤◌, ℕ, suc, Bool, not, List, [], ◌∷◌, map, length, take, drop, false, cond, ap}
+use Rattle.std.proofs.Common.{refl, sym, ◌∙◌, arith, inl, inr, true≢false}
 use Rattle.std.proofs.lemmas.Bool.{cases_Bool}
 use Rattle.std.proofs.lemmas.List.{take_all, length-drop}
 use Rattle.std.proofs.lemmas.List.Splits.{slice_split_first}
@@ -47,7 +48,8 @@ next_part text end value bound inside =
     ∙ ap (λ n. take n text ∷ slice_split (λ byte. byte == 46) (drop (n + 1) text)) (sym value))
 
 -- the same, for what is left of the text as code cuts it
-pub next_part_cut : (text : List ℕ) (end : ℕ) → end ≡ position_or_len (λ byte. byte == 46) text → end ≤ length text → (end ≡ length text → ⊥)
+pub next_part_cut : (text : List ℕ) (end : ℕ) → end ≡ position_or_len (λ byte. byte == 46) text → end ≤ length text
+    → (end ≡ length text → ⊥)
     → part_keys text ≡ part_key (take end text) ∷ part_keys (take (length text - (end + 1)) (drop (end + 1) text))
 next_part_cut text end value bound inside =
     next_part text end value bound inside ∙ ap (λ rest. part_key (take end text) ∷ part_keys rest) (sym (cut_all text (end + 1)))
@@ -60,7 +62,8 @@ pub some_after : (text : List ℕ) → slice_cmp part_cmp (part_keys text) [] �
 some_after text = let some = slice_split-first (λ byte. byte == 46) text in rw some.2 refl
 
 -- if the first parts tie, those after them decide
-pub tied_first : (keys others : List PartKey) (key other : PartKey) (more other_more : List PartKey) → keys ≡ key ∷ more → others ≡ other ∷ other_more
+pub tied_first : (keys others : List PartKey) (key other : PartKey) (more other_more : List PartKey) → keys ≡ key ∷ more
+    → others ≡ other ∷ other_more
     → part_cmp key other ≡ Equal → slice_cmp part_cmp keys others ≡ slice_cmp part_cmp more other_more
 tied_first keys others key other more other_more is other_is tie = rw (is, other_is, tie) refl
 

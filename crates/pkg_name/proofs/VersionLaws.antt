@@ -8,7 +8,8 @@ use Rattle.pkg_name.specs.OrderLaws.{version_cmp_total, version_cmp-same, versio
 use Rattle.pkg_name.specs.Laws.{IsLower, AnyTwoCompare, NeverBothLower, LowerThanLower, EqualAsTexts, OtherWayRound}
 
 -- one of the three answers
-by_answer : (version other : List ℕ) (r : Ordering) → version_cmp version other ≡ r → IsLower version other ⊎ (version ≡ other) ⊎ IsLower other version
+by_answer : (version other : List ℕ) (r : Ordering) → version_cmp version other ≡ r → IsLower version other
+    ⊎ (version ≡ other) ⊎ IsLower other version
 by_answer version other Less e = inl e
 by_answer version other Equal e = inr (inl (version_cmp-same version other e))
 by_answer version other Greater e = inr (inr (version_cmp_total.antisymm other version ∙ ap ordering_reverse e))

@@ -1,9 +1,11 @@
 -- Whether a text names a directory alone.
-use Rattle.std.proofs.Common.{◌≡◌, ◌∙◌, sym, ap, refl, arith, ℕ, ◌<◌, ltb, not, Bool, true, false, cond, eqb, ◌&&◌, ◌||◌, List, [], ◌∷◌, length, Ok, Err, Some, None}
+use Rattle.std.proofs.Common.{◌≡◌, ◌∙◌, sym, ap, refl, arith, ℕ, ◌<◌, ltb, not, Bool, true, false, cond, eqb, ◌&&◌, ◌||◌, List, [], ◌∷◌}
+use Rattle.std.proofs.Common.{length, Ok, Err, Some, None}
 use Rattle.std.specs.List.{filter, find, list_any, slice_split, onto_first, position_or_len, before_first, after_first}
 use Rattle.std.specs.Prelude.{is_none}
 use Rattle.text_parts.specs.Order.{in_order}
-use Rattle.pkg_path.specs.Paths.{elements_of, flavors_of, is_flavor, is_subpackage, is_well_cut, value_of, is_bare_directory, is_bare_path, names_directory}
+use Rattle.pkg_path.specs.Paths.{elements_of, flavors_of, is_flavor, is_subpackage, is_well_cut, value_of, is_bare_directory, is_bare_path}
+use Rattle.pkg_path.specs.Paths.{names_directory}
 use Rattle.pkg_path.specs.declared.faults.PkgPathFault.TheVariants.{TwoSubpackages, BadCharacter}
 use Rattle.std.specs.Result.{result_ok}
 use Rattle.std.proofs.lemmas.Grind.{common_steps}
@@ -31,11 +33,13 @@ by_first directory choice choices true is =
     ap (λ b. is_none (flavors_of (choice ∷ choices)) && is_none (cond b (Some choice) (find is_subpackage choices))) is
     ∙ and_false (is_none (flavors_of (choice ∷ choices)))
 by_first directory choice choices false is =
-    ap (λ b. is_none (cond (not b || list_any (λ one. not (is_subpackage one)) choices) (Some (in_order (filter is_flavor (choice ∷ choices)))) None)
+    ap (λ b. is_none (cond (not b || list_any (λ one. not (is_subpackage one)) choices)
+        (Some (in_order (filter is_flavor (choice ∷ choices)))) None)
     && is_none (find is_subpackage (choice ∷ choices))) is
 
 by_two : (directory choice : List ℕ) (choices : List (List ℕ)) (two well : Bool)
-    → is_bare_path (result_ok (cond two (Err TwoSubpackages) (cond well (Ok (value_of (directory ∷ choice ∷ choices))) (Err BadCharacter)))) ≡ false
+    → is_bare_path (result_ok (cond two (Err TwoSubpackages) (cond well (Ok (value_of (directory ∷ choice ∷ choices))) (Err BadCharacter))))
+    ≡ false
 by_two directory choice choices true well = refl
 by_two directory choice choices false true = by_first directory choice choices (is_subpackage choice) refl
 by_two directory choice choices false false = refl
@@ -50,7 +54,8 @@ onto : (byte : ℕ) (parts : List (List ℕ)) → IsCut (onto_first byte parts)
 onto byte [] = record { first = byte ∷ []; others = []; is = refl }
 onto byte (first ∷ others) = record { first = byte ∷ first; others = others; is = refl }
 
-cut_by : (byte : ℕ) (text : List ℕ) (b : Bool) → IsCut (cond b ([] ∷ slice_split is_comma text) (onto_first byte (slice_split is_comma text)))
+cut_by : (byte : ℕ) (text : List ℕ) (b : Bool)
+    → IsCut (cond b ([] ∷ slice_split is_comma text) (onto_first byte (slice_split is_comma text)))
 cut_by byte text true = record { first = []; others = slice_split is_comma text; is = refl }
 cut_by byte text false = onto byte (slice_split is_comma text)
 

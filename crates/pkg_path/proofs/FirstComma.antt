@@ -7,8 +7,10 @@ use Rattle.pkg_path.specs.Paths.{elements_of}
 abbrev pub is_comma : ℕ → Bool
 is_comma = λ byte. eqb byte 44
 
-whole_from : (byte : ℕ) (text : List ℕ) (b : Bool) → eqb byte 44 ≡ b → cond (not b) (1 + position_or_len is_comma text) 0 ≡ suc (length text)
-    → (position_or_len is_comma text ≡ length text → slice_split is_comma text ≡ text ∷ []) → slice_split is_comma (byte ∷ text) ≡ (byte ∷ text) ∷ []
+whole_from : (byte : ℕ) (text : List ℕ) (b : Bool) → eqb byte 44 ≡ b
+    → cond (not b) (1 + position_or_len is_comma text) 0 ≡ suc (length text)
+    → (position_or_len is_comma text ≡ length text → slice_split is_comma text ≡ text ∷ [])
+    → slice_split is_comma (byte ∷ text) ≡ (byte ∷ text) ∷ []
 whole_from byte text true is far rest = absurd (omega arith)
 whole_from byte text false is far rest = slice_split-cons_no is_comma byte text is ∙ ap (onto_first byte) (rest (omega arith))
 

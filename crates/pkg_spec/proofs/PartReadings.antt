@@ -14,9 +14,11 @@ kept_of reading = map alternative_seen reading.alternatives.items
 
 -- the alternatives that were kept, unless one had a refusal
 abbrev answer : Bool → Bool → Bool → List AlternativeValue → Result (List AlternativeValue) SpecFault
-answer no_stem bad_version empty kept = cond no_stem (Err NoStem) (cond bad_version (Err BadVersion) (cond empty (Err EmptyAlternative) (Ok kept)))
+answer no_stem bad_version empty kept = cond no_stem (Err NoStem)
+    (cond bad_version (Err BadVersion) (cond empty (Err EmptyAlternative) (Ok kept)))
 
-module _ (text : List ℕ) (parts : List (List ℕ)) (reading : Reading) (cut : parts ≡ slice_split (λ byte. eqb byte bar) text) (read : ReadsParts parts reading) where
+module _ (text : List ℕ) (parts : List (List ℕ)) (reading : Reading) (cut : parts ≡ slice_split (λ byte. eqb byte bar) text)
+    (read : ReadsParts parts reading) where
   answered : spec_of text ≡ answer reading.no_stem reading.bad_version reading.empty (kept_of reading)
   unfolding spec_of
   answered =
@@ -29,11 +31,13 @@ module _ (text : List ℕ) (parts : List (List ℕ)) (reading : Reading) (cut : 
   pub is_bad_version : reading.no_stem ≡ false → reading.bad_version ≡ true → spec_of text ≡ Err BadVersion
   is_bad_version a b = answered ∙ (λ i. answer (a i) (b i) reading.empty (kept_of reading))
 
-  pub is_empty_alternative : reading.no_stem ≡ false → reading.bad_version ≡ false → reading.empty ≡ true → spec_of text ≡ Err EmptyAlternative
+  pub is_empty_alternative : reading.no_stem ≡ false → reading.bad_version ≡ false → reading.empty ≡ true
+      → spec_of text ≡ Err EmptyAlternative
   is_empty_alternative a b d = answered ∙ (λ i. answer (a i) (b i) (d i) (kept_of reading))
 
   pub is_spec : reading.no_stem ≡ false → reading.bad_version ≡ false → reading.empty ≡ false → spec_of text ≡ Ok (kept_of reading)
   is_spec a b d = answered ∙ (λ i. answer (a i) (b i) (d i) (kept_of reading))
 
-pub gives_alternatives : (reading : Result (List AlternativeValue) SpecFault) (kept : List AlternativeValue) → reading ≡ Ok kept → IsOk reading
+pub gives_alternatives : (reading : Result (List AlternativeValue) SpecFault) (kept : List AlternativeValue)
+    → reading ≡ Ok kept → IsOk reading
 gives_alternatives reading kept is = rw is refl

@@ -11,7 +11,8 @@ use Rattle.plain_service.specs.Replies.{bad_path}
 
 by_test : (body text : List ℕ) (b : Bool) → text ≡ trimmed body → is_utf8 text ≡ b
     → set_path body ≡ (if b then set_trees text (search_path text) else reply_alone bad_path)
-by_test body text b is test = ap set_text (sym is) ∙ ap (λ good. if good then set_trees text (search_path text) else reply_alone bad_path) test
+by_test body text b is test = ap set_text (sym is)
+    ∙ ap (λ good. if good then set_trees text (search_path text) else reply_alone bad_path) test
 
 pub good_body : (body text : List ℕ) → text ≡ trimmed body → IsUtf8 text → set_path body ≡ set_trees text (search_path text)
 good_body body text is good = by_test body text true is (is_utf8-from_IsUtf8 text good)

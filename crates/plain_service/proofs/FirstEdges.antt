@@ -11,7 +11,8 @@ use Rattle.ports_query.specs.declared.kinds.Kinds.{Kinds}
 module _ {X : Type 0} (p q : X → Bool) (within : (x : X) → p x ≡ true → q x ≡ true) where
   filter_by : (x : X) (xs : List X) (passes there : Bool) → p x ≡ passes → q x ≡ there → filter p (filter q xs) ≡ filter p xs
       → filter p (if there then x ∷ filter q xs else filter q xs) ≡ (if passes then x ∷ filter p xs else filter p xs)
-  filter_by x xs true true is e rest = ap (λ (b : Bool). if b then x ∷ filter p (filter q xs) else filter p (filter q xs)) is ∙ ap (λ all. x ∷ all) rest
+  filter_by x xs true true is e rest = ap (λ (b : Bool). if b then x ∷ filter p (filter q xs) else filter p (filter q xs)) is
+      ∙ ap (λ all. x ∷ all) rest
   filter_by x xs true false is e rest = let there : q x ≡ true = within x is in absurd cc
   filter_by x xs false true is e rest = ap (λ (b : Bool). if b then x ∷ filter p (filter q xs) else filter p (filter q xs)) is ∙ rest
   filter_by x xs false false is e rest = rest
@@ -25,5 +26,7 @@ pub first-own : (kinds : Kinds) (path : PathValue) (at : List ℕ) (edges : List
     → first_edges_of kinds path (filter (λ (edge : RootEdgeValue). bytes_eq edge.root at) edges) ≡ first_edges_of kinds path edges
 first-own kinds path at edges is =
     ap (λ root. first_edges_of kinds path (filter (λ (edge : RootEdgeValue). bytes_eq edge.root root) edges)) is
-    ∙ filter-within (λ (edge : RootEdgeValue). has_kind kinds edge.edge.kind && is_of path edge) (λ (edge : RootEdgeValue). bytes_eq edge.root (port_path path))
-    (λ edge passes. (and_parts (bytes_eq edge.root (port_path path)) (keeps path.subpackage edge.edge) (and_parts (has_kind kinds edge.edge.kind) (is_of path edge) passes).1).0) edges
+    ∙ filter-within (λ (edge : RootEdgeValue). has_kind kinds edge.edge.kind && is_of path edge)
+        (λ (edge : RootEdgeValue). bytes_eq edge.root (port_path path))
+    (λ edge passes. (and_parts (bytes_eq edge.root (port_path path)) (keeps path.subpackage edge.edge)
+        (and_parts (has_kind kinds edge.edge.kind) (is_of path edge) passes).1).0) edges

@@ -13,7 +13,8 @@ use Rattle.ports_http.specs.declared.method.Method.TheVariants.{Get, Put, Delete
 use Rattle.plain_service.specs.declared.change.Change.{Change}
 use Rattle.plain_service.specs.declared.change.Change.TheVariants.{PutFile, RemoveFile, SetPath, SetProfile}
 use Rattle.plain_service.specs.declared.routes.Route.{Route}
-use Rattle.plain_service.specs.declared.routes.Route.TheVariants.{Deps, Faults, File, List as AllPackages, Match, Path, Port, Profile as Language, Rdeps, Var}
+use Rattle.plain_service.specs.declared.routes.Route.TheVariants.{Deps, Faults, File, List as AllPackages, Match, Path, Port}
+use Rattle.plain_service.specs.declared.routes.Route.TheVariants.{Profile as Language, Rdeps, Var}
 use Rattle.plain_service.specs.Change.{changed, overfills, settle_change}
 use Rattle.plain_service.specs.Parameters.{parameter, optional}
 use Rattle.std.specs.Prelude.{codes, is_some}
@@ -28,7 +29,9 @@ use Rattle.plain_service.specs.declared.port_routes.PortQuestion.TheVariants.{Va
 use Rattle.plain_service.specs.declared.index_questions.IndexQuestion.TheVariants as index
 use Rattle.plain_service.specs.IndexRoutes.{question_of_query, bad_spec}
 use Rattle.plain_service.specs.PathParameter.{path_in}
-use Rattle.plain_service.specs.Questions.{refused_question, question_or_refusal, with_parameter, named_file_question, resolved_question, file_question_in, conditions_question, spec_question, get_question, query_question, path_question, question_on_route, question_of}
+use Rattle.plain_service.specs.Questions.{refused_question, question_or_refusal, with_parameter, named_file_question, resolved_question}
+use Rattle.plain_service.specs.Questions.{file_question_in, conditions_question, spec_question, get_question, query_question, path_question}
+use Rattle.plain_service.specs.Questions.{question_on_route, question_of}
 use Rattle.plain_service.specs.Answers.{answer_to}
 use Rattle.plain_service.specs.Replies.{bad_path, storage_full, no_file, removed}
 use Rattle.plain_service.specs.Routes.{route_of}
@@ -50,10 +53,12 @@ after_change world (RemoveFile name) keeps = refl
 after_change world (SetPath trees) keeps = refl
 after_change world (SetProfile profile) keeps = absurd keeps
 
-settled-keeps : (world : World) (reply : ReplyMessage) (change : Option Change) → KeepsIt change → profile_of (settle_change world reply change).1 ≡ profile_of world
+settled-keeps : (world : World) (reply : ReplyMessage) (change : Option Change) → KeepsIt change
+    → profile_of (settle_change world reply change).1 ≡ profile_of world
 settled-keeps world reply None keeps = refl
 settled-keeps world reply (Some change) keeps =
-    elim (overfills world change) as (λ b. profile_of (if◌then◌else◌ {A = ReplyMessage × World} b (storage_full, world) (reply, changed world change)).1 ≡ profile_of world) [
+    elim (overfills world change) as (λ b. profile_of (if◌then◌else◌ {A = ReplyMessage × World} b (storage_full, world)
+        (reply, changed world change)).1 ≡ profile_of world) [
       | true ↦ refl
       | false ↦ after_change world change keeps
     ]
@@ -85,18 +90,21 @@ module _ (world : World) where
   named-keeps Get body name = tt
   named-keeps Put body name = tt
   named-keeps Delete body name =
-      elim (is_some (get (files_in world) name)) as (λ b. KeepsIt (if◌then◌else◌ {A = Answer} b (removed, Some (RemoveFile name)) (reply_alone no_file)).1) [
+      elim (is_some (get (files_in world) name)) as (λ b. KeepsIt (if◌then◌else◌ {A = Answer} b (removed, Some (RemoveFile name))
+          (reply_alone no_file)).1) [
         | true ↦ tt
         | false ↦ tt
       ]
 
-  resolved-keeps : (method : Method) (body : List ℕ) (name : Result (List ℕ) NameFault) → KeepsIt (answer_to world (resolved_question method body name)).1
+  resolved-keeps : (method : Method) (body : List ℕ) (name : Result (List ℕ) NameFault)
+      → KeepsIt (answer_to world (resolved_question method body name)).1
   resolved-keeps method body (Ok name) = named-keeps method body name
   resolved-keeps method body (Err fault) = tt
 
   file-keeps : (method : Method) (body query : List ℕ) → KeepsIt (answer_to world (file_question_in method body query)).1
   file-keeps method body query =
-      parameter-keeps (λ text. resolved_question method body (resolved text)) (λ text. resolved-keeps method body (resolved text)) (parameter (codes "name") query)
+      parameter-keeps (λ text. resolved_question method body (resolved text)) (λ text. resolved-keeps method body (resolved text))
+          (parameter (codes "name") query)
 
   conditions-keep : (conditions : Option (List ConditionValue)) → KeepsIt (answer_to world (conditions_question conditions)).1
   conditions-keep (Some conditions) = tt
@@ -104,7 +112,8 @@ module _ (world : World) where
 
   spec-keeps : (text : List ℕ) → KeepsIt (answer_to world (spec_question text)).1
   spec-keeps text =
-      elim (is_ok (spec_of text)) as (λ b. KeepsIt (answer_to world (if b then OfIndex (index.Match text) else refused_question bad_spec)).1) [
+      elim (is_ok (spec_of text)) as (λ b. KeepsIt
+          (answer_to world (if b then OfIndex (index.Match text) else refused_question bad_spec)).1) [
         | true ↦ tt
         | false ↦ tt
       ]
@@ -113,7 +122,8 @@ module _ (world : World) where
   get-keeps query Deps = refusal-keeps (λ asked. OfIndex (index.Dependencies Dependencies asked)) (λ asked. tt) (question_of_query query)
   get-keeps query Faults = tt
   get-keeps query File = tt
-  get-keeps query AllPackages = parameter-keeps (λ text. conditions_question (query_conditions text)) (λ text. conditions-keep (query_conditions text)) (optional (codes "where") query)
+  get-keeps query AllPackages = parameter-keeps (λ text. conditions_question (query_conditions text))
+      (λ text. conditions-keep (query_conditions text)) (optional (codes "where") query)
   get-keeps query Match = parameter-keeps spec_question spec-keeps (parameter (codes "spec") query)
   get-keeps query Path = tt
   get-keeps query Port = refusal-keeps (λ path. OfPort (Record path)) (λ path. tt) (path_in query)
@@ -134,7 +144,8 @@ module _ (world : World) where
   path-keeps body Get = tt
   path-keeps body Delete = tt
 
-  route-keeps : (request : PlainRequest) (route : Option Route) → is_of_profile route ≡ false → KeepsIt (answer_to world (question_on_route request route)).1
+  route-keeps : (request : PlainRequest) (route : Option Route) → is_of_profile route ≡ false
+      → KeepsIt (answer_to world (question_on_route request route)).1
   route-keeps request None other = tt
   route-keeps request (Some Deps) other = query-keeps (target_query request.target) Deps request.method
   route-keeps request (Some Faults) other = query-keeps (target_query request.target) Faults request.method
@@ -153,4 +164,5 @@ answer-keeps world request other = route-keeps world request (route_of (target_p
 
 pub others_keep_the_profile : OthersKeepTheProfile
 others_keep_the_profile world request other =
-    settled-keeps world (answer_to world (question_of request)).0 (answer_to world (question_of request)).1 (answer-keeps world request other)
+    settled-keeps world (answer_to world (question_of request)).0 (answer_to world (question_of request)).1
+        (answer-keeps world request other)

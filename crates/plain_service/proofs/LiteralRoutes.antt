@@ -1,5 +1,6 @@
 -- What a router whose patterns have no parameters finds: the route whose pattern is the path.
-use Rattle.std.proofs.Common.{◌≡◌, ℕ, zero, suc, ◌-◌, ◌==◌, ltb, ◌&&◌, Bool, true, false, cond, List, [], ◌∷◌, Option, Some, None, refl, ap, ◌∙◌, arith, length, if◌then◌else◌}
+use Rattle.std.proofs.Common.{◌≡◌, ℕ, zero, suc, ◌-◌, ◌==◌, ltb, ◌&&◌, Bool, true, false, cond, List, [], ◌∷◌, Option, Some, None, refl, ap}
+use Rattle.std.proofs.Common.{◌∙◌, arith, length, if◌then◌else◌}
 use Rattle.std.proofs.lemmas.Bool.Decides.{nat_tests}
 use Rattle.std.specs.Str.{bytes_eq}
 use Rattle.std.proofs.lemmas.Bool.{and_parts}
@@ -103,4 +104,5 @@ module _ {K : Type 0} where
       let here = seek_literal path (step b rs) (literal_step b rs h) in
       let found : seek 0 (step b rs) path ≡ row_of rs (b ∷ path) = here ∙ row_of-step b path rs in
       rw (step_wild param_token refl rs h, step_wild catch_all_token refl rs h)
-      (ap (or_else (seek 0 (step b rs) path)) (no_wild b path (λ n. seek_nothing n path)) ∙ (or_else-none (seek 0 (step b rs) path) ∙ found))
+      (ap (or_else (seek 0 (step b rs) path)) (no_wild b path (λ n. seek_nothing n path))
+          ∙ (or_else-none (seek 0 (step b rs) path) ∙ found))

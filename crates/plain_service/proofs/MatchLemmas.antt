@@ -30,8 +30,10 @@ module _ (spec : List ℕ) where
   lists_none : (root : RootValue) → taken root ≡ false → listed root ≡ []
   lists_none root e = by root.state e
     where
-      by : (state : Result PortValue FaultAt) → passes_state (admits_one spec) state ≡ false → packages_passing (spec_test spec) root.path state ≡ []
-      by (Ok port) none_is = ap (map (listed_at root.path)) (none (λ (found : PackageValue). admitted_by spec found.name) port.packages none_is)
+      by : (state : Result PortValue FaultAt) → passes_state (admits_one spec) state ≡ false
+          → packages_passing (spec_test spec) root.path state ≡ []
+      by (Ok port) none_is = ap (map (listed_at root.path))
+          (none (λ (found : PackageValue). admitted_by spec found.name) port.packages none_is)
       by (Err fault) none_is = refl
 
   one_by : (root : RootValue) (roots : List RootValue) (is : Bool) → taken root ≡ is

@@ -1,5 +1,6 @@
 -- No makefile is twice, with the same flavors, among those on which an answer rests.
-use Rattle.std.proofs.Common.{◌≡◌, ◌≢◌, ◌∙◌, ◌⊎◌, inl, inr, sym, ap, subst, refl, ℕ, ◌<◌, Bool, true, false, cond, not, ◌&&◌, ◌||◌, ◌==◌, List, [], ◌∷◌, ◌++◌, length, Option, Some, None, Ok, arith}
+use Rattle.std.proofs.Common.{◌≡◌, ◌≢◌, ◌∙◌, ◌⊎◌, inl, inr, sym, ap, subst, refl, ℕ, ◌<◌, Bool, true, false, cond, not, ◌&&◌, ◌||◌, ◌==◌}
+use Rattle.std.proofs.Common.{List, [], ◌∷◌, ◌++◌, length, Option, Some, None, Ok, arith}
 use Rattle.std.proofs.lemmas.Bool.{and_parts, false≢true}
 use Rattle.std.proofs.lemmas.Grind.{common_steps}
 use Rattle.std.proofs.lemmas.Cmp.{tied_itself, nat_list_cmp_total}
@@ -10,7 +11,8 @@ use Rattle.std.proofs.lemmas.List.Splits.{join_with_byte-slice_split, length-sli
 use Rattle.std.proofs.lemmas.Slice.Eq.{bytes_eq-Decides}
 use Rattle.std.specs.BTreeSet.{insert_key}
 use Rattle.std.specs.FinMap.{keys}
-use Rattle.std.specs.List.{All, AllPairs, AllByRecursion, list_any, list_all, filter, filter_map, flat_map, cons_option, find, join_with_byte}
+use Rattle.std.specs.List.{All, AllPairs, AllByRecursion, list_any, list_all, filter, filter_map, flat_map, cons_option, find}
+use Rattle.std.specs.List.{join_with_byte}
 use Rattle.std.specs.List.Sorted.{IsStrictlySortedBy}
 use Rattle.std.specs.Option.{option_map, option_and_then, is_none, option_to_list}
 use Rattle.std.specs.Ordering.{match_ordering}
@@ -26,18 +28,23 @@ use Rattle.mk_paths.specs.FileName.{parts_of_name}
 use Rattle.mk_paths.specs.Place.{place}
 use Rattle.mk_paths.specs.SearchPath.{IsSearchPath, is_tree}
 use Rattle.mk_paths.specs.World.{World, files_in, search_path_of}
-use Rattle.pkg_path.specs.Paths.{is_bare_directory, is_bare_path, PathValue, path_of, path_if_one, canonical, without_subpackage, port_path, elements_of, directory_element, choices_of, choices_text, flavor_choices, flavors_of, is_flavor, is_subpackage}
+use Rattle.pkg_path.specs.Paths.{is_bare_directory, is_bare_path, PathValue, path_of, path_if_one, canonical, without_subpackage, port_path}
+use Rattle.pkg_path.specs.Paths.{elements_of, directory_element, choices_of, choices_text, flavor_choices, flavors_of, is_flavor}
+use Rattle.pkg_path.specs.Paths.{is_subpackage}
 use Rattle.general_facts.specs.Ascii.{comma}
 use Rattle.pkg_path.proofs.Rereading.{path_of-IsPath, without-IsPath}
 use Rattle.port_rules.specs.Depends.{DependValue}
-use Rattle.port_deps.specs.ItemText.{WantedValue, PartsValue, wanted_of, wanted_in, wanted_at, wanted_by, spec_if_one, spec_text, at_sign, named_parts}
+use Rattle.port_deps.specs.ItemText.{WantedValue, PartsValue, wanted_of, wanted_in, wanted_at, wanted_by, spec_if_one, spec_text, at_sign}
+use Rattle.port_deps.specs.ItemText.{named_parts}
 use Rattle.port_deps.specs.ItemText as item_text
 use Rattle.port_index.specs.Dependencies.{target_by, targets_in, target_of, items_among}
 use Rattle.port_index.specs.Index.{needed_paths, listed_paths}
 use Rattle.port_index.specs.TreePaths as tree_paths
-use Rattle.port_index.specs.TreePaths.{if_directory, directories, makefile_directory, path_of_word, named_at, path_below, named_in as named_in_list}
+use Rattle.port_index.specs.TreePaths.{if_directory, directories, makefile_directory, path_of_word, named_at, path_below}
+use Rattle.port_index.specs.TreePaths.{named_in as named_in_list}
 use Rattle.port_index.specs.Pairs.{Pair, pair_in, pair_named, pair_at, pairs_at}
-use Rattle.port_index.specs.PathOutcomes.{PathOutcome, Absent, Faulty, Port, BadPort, Lists, BadList, FlavoredList, Other, outcome_at, own_directory}
+use Rattle.port_index.specs.PathOutcomes.{PathOutcome, Absent, Faulty, Port, BadPort, Lists, BadList, FlavoredList, Other, outcome_at}
+use Rattle.port_index.specs.PathOutcomes.{own_directory}
 use Rattle.port_index.proofs.PathReading.{has_directory, ok_if, read_as}
 use Rattle.port_index.proofs.TargetLemmas.{targets-among}
 use Rattle.plain_service.specs.Questions.{question_of}
@@ -66,7 +73,8 @@ module _ {X : Type 0} (P : X → Type 0) where
       by (Some x) is rest = (all w x is, rest)
 
 module _ (P : List ℕ → Type 0) where
-  put_by : (k x : List ℕ) (xs : List (List ℕ)) (o : Ordering) → P k → AllByRecursion P (x ∷ xs) → AllByRecursion P (insert_key by_bytes xs k)
+  put_by : (k x : List ℕ) (xs : List (List ℕ)) (o : Ordering) → P k → AllByRecursion P (x ∷ xs)
+      → AllByRecursion P (insert_key by_bytes xs k)
       → AllByRecursion P (match_ordering o (k ∷ x ∷ xs) (x ∷ xs) (x ∷ insert_key by_bytes xs k))
   put_by k x xs Less p a rest = (p, a)
   put_by k x xs Equal p a rest = a
@@ -82,12 +90,15 @@ module _ (P : List ℕ → Type 0) where
 
 -- what is found for texts in order is apart, if what is found says which text it is found for
 
-module _ {Y : Type 0} (f : List ℕ → Option Y) (P : List ℕ → Type 0) (one : (x z : List ℕ) (y : Y) → P x → P z → f x ≡ Some y → f z ≡ Some y → x ≡ z) where
-  not_later : (x : List ℕ) (y : Y) (zs : List (List ℕ)) → P x → f x ≡ Some y → AllByRecursion (λ z. by_bytes x z ≡ Less) zs → AllByRecursion P zs → All (λ other. y ≢ other) (filter_map f zs)
+module _ {Y : Type 0} (f : List ℕ → Option Y) (P : List ℕ → Type 0) (one : (x z : List ℕ) (y : Y) → P x → P z → f x ≡ Some y
+    → f z ≡ Some y → x ≡ z) where
+  not_later : (x : List ℕ) (y : Y) (zs : List (List ℕ)) → P x → f x ≡ Some y → AllByRecursion (λ z. by_bytes x z ≡ Less) zs
+      → AllByRecursion P zs → All (λ other. y ≢ other) (filter_map f zs)
   not_later x y [] p is above all = All-nil _
   not_later x y (z ∷ zs) p is above all = by (f z) refl (not_later x y zs p is above.1 all.1)
     where
-      by : (found : Option Y) → f z ≡ found → All (λ other. y ≢ other) (filter_map f zs) → All (λ other. y ≢ other) (cons_option found (filter_map f zs))
+      by : (found : Option Y) → f z ≡ found → All (λ other. y ≢ other) (filter_map f zs)
+          → All (λ other. y ≢ other) (cons_option found (filter_map f zs))
       by None at rest = rest
       by (Some other) at rest =
           All-cons (λ other. y ≢ other) other _ (λ same.
@@ -95,12 +106,14 @@ module _ {Y : Type 0} (f : List ℕ → Option Y) (P : List ℕ → Type 0) (one
           let tied : by_bytes x z ≡ Equal = subst (λ z. by_bytes x z ≡ Equal) here (tied_itself nat_list_cmp_total x) in
           cc) rest
 
-  found_apart : (xs : List (List ℕ)) → IsStrictlySortedBy by_bytes xs → AllByRecursion P xs → AllPairs (λ y other. y ≢ other) (filter_map f xs)
+  found_apart : (xs : List (List ℕ)) → IsStrictlySortedBy by_bytes xs → AllByRecursion P xs
+      → AllPairs (λ y other. y ≢ other) (filter_map f xs)
   unfolding IsStrictlySortedBy
   found_apart [] sorted all = λ i j d below within. absurd (omega (arith, within))
   found_apart (x ∷ xs) sorted all = by (f x) refl (found_apart xs sorted.1 all.1)
     where
-      by : (found : Option Y) → f x ≡ found → AllPairs (λ y other. y ≢ other) (filter_map f xs) → AllPairs (λ y other. y ≢ other) (cons_option found (filter_map f xs))
+      by : (found : Option Y) → f x ≡ found → AllPairs (λ y other. y ≢ other) (filter_map f xs)
+          → AllPairs (λ y other. y ≢ other) (cons_option found (filter_map f xs))
       by None is rest = rest
       by (Some y) is rest = AllPairs-cons (λ y other. y ≢ other) y (filter_map f xs) (not_later x y xs all.0 is sorted.0 all.1) rest
 
@@ -138,9 +151,11 @@ no_choices (choice ∷ choices) a b = by (is_subpackage choice) refl
     by : (sub : Bool) → is_subpackage choice ≡ sub → choice ∷ choices ≡ []
     by true is = absurd (false≢true (ap (λ sub. is_none (cond sub (Some choice) (find is_subpackage choices))) (sym is) ∙ b))
     by false is =
-        absurd (false≢true (ap (λ sub. is_none (cond (not sub || list_any (λ choice. not (is_subpackage choice)) choices) (Some (in_order (filter is_flavor (choice ∷ choices)))) None)) (sym is) ∙ a))
+        absurd (false≢true (ap (λ sub. is_none (cond (not sub || list_any (λ choice. not (is_subpackage choice)) choices)
+            (Some (in_order (filter is_flavor (choice ∷ choices)))) None)) (sym is) ∙ a))
 
-one_element : (elements : List (List ℕ)) → 0 < length elements → choices_of elements ≡ [] → join_with_byte 44 elements ≡ directory_element elements
+one_element : (elements : List (List ℕ)) → 0 < length elements → choices_of elements ≡ []
+    → join_with_byte 44 elements ≡ directory_element elements
 one_element [] some none = absurd (omega (arith, some))
 one_element (directory ∷ []) some none = refl
 one_element (directory ∷ choice ∷ choices) some none = absurd cc
@@ -156,14 +171,17 @@ bare_text text e = by (path_if_one text) refl e
         let r = read_as text path read in
         let n = and_parts (is_none path.flavors) (is_none path.subpackage) e in
         let none : choices_of (elements_of text) ≡ [] =
-        no_choices (choices_of (elements_of text)) (ap (λ (path : PathValue). is_none path.flavors) r.0 ∙ n.0) (ap (λ (path : PathValue). is_none path.subpackage) r.0 ∙ n.1) in
+        no_choices (choices_of (elements_of text)) (ap (λ (path : PathValue). is_none path.flavors) r.0 ∙ n.0)
+            (ap (λ (path : PathValue). is_none path.subpackage) r.0 ∙ n.1) in
         record {
           value = path;
           read = read;
           written =
-              sym (join_with_byte-slice_split 44 text) ∙ one_element (elements_of text) (omega (arith, length-slice_split (λ byte. byte == 44) text)) none
+              sym (join_with_byte-slice_split 44 text)
+                  ∙ one_element (elements_of text) (omega (arith, length-slice_split (λ byte. byte == 44) text)) none
               ∙ ap (λ (path : PathValue). path.directory) r.0
-              ∙ sym (ap (λ flavors. path.directory ++ choices_text (flavor_choices flavors) ++ choices_text (option_to_list path.subpackage)) (none_is path.flavors n.0)
+              ∙ sym (ap (λ flavors. path.directory ++ choices_text (flavor_choices flavors) ++ choices_text
+                  (option_to_list path.subpackage)) (none_is path.flavors n.0)
               ∙ ap (λ sub. path.directory ++ [] ++ choices_text (option_to_list sub)) (none_is path.subpackage n.1)
               ∙ append-nil (path.directory ++ []) ∙ append-nil path.directory);
           bare = none_is path.subpackage n.1;
@@ -175,7 +193,8 @@ map_some : {X Y : Type 0} (f : X → Y) (found : Option X) (y : Y) → option_ma
 map_some f None y e = absurd cc
 map_some f (Some x) y e = (x, refl, cc)
 
-then_some : {X Y : Type 0} (f : X → Option Y) (found : Option X) (y : Y) → option_and_then f found ≡ Some y → (x : X) × (found ≡ Some x) × (f x ≡ Some y)
+then_some : {X Y : Type 0} (f : X → Option Y) (found : Option X) (y : Y) → option_and_then f found ≡ Some y → (x : X)
+    × (found ≡ Some x) × (f x ≡ Some y)
 then_some f None y e = absurd cc
 then_some f (Some x) y e = (x, refl, e)
 
@@ -252,7 +271,8 @@ module _ (world : World) where
       each-in_order MayBeNeeded (flat_map (named_at (outcome_at world)) found ++ found)
       (each-append MayBeNeeded (flat_map (named_at (outcome_at world)) found) found
       (each-flat_map MayBeNeeded (named_at (outcome_at world)) (λ directory. listed_at directory (outcome_at world directory)) found)
-      (each-in_order MayBeNeeded (filter_map tree_paths.listable_directory (keys (files_in world))) (each-given MayBeNeeded tree_paths.listable_directory listed_directory (keys (files_in world)))))
+      (each-in_order MayBeNeeded (filter_map tree_paths.listable_directory (keys (files_in world)))
+          (each-given MayBeNeeded tree_paths.listable_directory listed_directory (keys (files_in world)))))
 
   all_needed : AllByRecursion MayBeNeeded (needed_paths world)
   all_needed =
@@ -281,7 +301,8 @@ record IsFoundFor (path : List ℕ) (pair : Pair) : Type 0 where
 
 module _ (world : World) (trees : IsSearchPath (search_path_of world)) where
   all_trees : list_all is_tree (search_path_of world) ≡ true
-  all_trees = last_of (nat_le 1 (length (search_path_of world))) (nat_le (length (search_path_of world)) 8) (list_all is_tree (search_path_of world)) trees
+  all_trees = last_of (nat_le 1 (length (search_path_of world))) (nat_le (length (search_path_of world)) 8)
+      (list_all is_tree (search_path_of world)) trees
     where
       last_of : (a b c : Bool) → (a && b && c) ≡ true → c ≡ true
       last_of a b c e = grind (arith, common_steps)
@@ -295,7 +316,8 @@ module _ (world : World) (trees : IsSearchPath (search_path_of world)) where
   bare_found : (path : List ℕ) (pair : Pair) (bare : IsBarePath path) → pair_named world bare.value ≡ Some pair → IsFoundFor path pair
   bare_found path pair bare e =
       let value = bare.value in
-      let t = map_some (λ makefile. let pair : Pair = record { makefile = makefile; flavors = value.flavors } in pair) (place world value.directory) pair e in
+      let t = map_some (λ makefile. let pair : Pair = record { makefile = makefile; flavors = value.flavors } in pair)
+          (place world value.directory) pair e in
       let f = in_tree (files_in world) value.directory t.0 (search_path_of world) all_trees t.1 in
       let stem = parts_of_name value.directory in
       subst (IsFoundFor path) t.2 (record {
@@ -303,7 +325,8 @@ module _ (world : World) (trees : IsSearchPath (search_path_of world)) where
         named = named_in f.0 f.1 value.directory t.0 f.2 (has_directory path value bare.read);
         written =
             bare.written
-            ∙ (λ i. canonical (record { directory = sym (join_with_byte-slice_split 47 value.directory) i; flavors = value.flavors; subpackage = bare.bare i }))
+            ∙ (λ i. canonical (record { directory = sym (join_with_byte-slice_split 47 value.directory) i; flavors =
+                value.flavors; subpackage = bare.bare i }))
             ∙ sym (path_with-some stem value.flavors (omega (arith, length-slice_split (λ byte. byte == slash) value.directory)));
       })
 
@@ -314,9 +337,11 @@ module _ (world : World) (trees : IsSearchPath (search_path_of world)) where
           → cond own (pair_in world path None) (option_and_then (pair_named world) (path_if_one path)) ≡ Some pair → IsFoundFor path pair
       by true is may e = own_found path pair ((bytes_eq-Decides path own_directory).0 is) e
       by false is (inl own) e = absurd (false≢true (sym is ∙ (bytes_eq-Decides path own_directory).1 own))
-      by false is (inr bare) e = bare_found path pair bare (ap (λ found. option_and_then (pair_named world) (result_ok found)) (sym bare.read) ∙ e)
+      by false is (inr bare) e = bare_found path pair bare
+          (ap (λ found. option_and_then (pair_named world) (result_ok found)) (sym bare.read) ∙ e)
 
-  one_path : (path other : List ℕ) (pair : Pair) → MayBeNeeded path → MayBeNeeded other → pair_at world path ≡ Some pair → pair_at world other ≡ Some pair → path ≡ other
+  one_path : (path other : List ℕ) (pair : Pair) → MayBeNeeded path → MayBeNeeded other → pair_at world path ≡ Some pair
+      → pair_at world other ≡ Some pair → path ≡ other
   one_path path other pair a b one two =
       let f = found path pair a one in
       let g = found other pair b two in
@@ -324,7 +349,8 @@ module _ (world : World) (trees : IsSearchPath (search_path_of world)) where
 
   needed_apart : AllPairs (λ one other. one ≢ other) (pairs_at world (needed_paths world))
   needed_apart = found_apart (pair_at world) MayBeNeeded one_path (needed_paths world)
-      (in_order-sorted (listed_paths world ++ filter_map target_of (items_among (outcome_at world) (listed_paths world)))) (all_needed world)
+      (in_order-sorted (listed_paths world ++ filter_map target_of (items_among (outcome_at world) (listed_paths world))))
+      (all_needed world)
 
   rests_apart : (question : Question) → AllPairs (λ one other. one ≢ other) (rests_for world question)
   rests_apart (Settled prepared) = one_apart None

@@ -14,7 +14,8 @@ use Rattle.mk_paths.specs.FileName.{resolved}
 use Rattle.ports_http.specs.declared.method.Method.{Method}
 use Rattle.ports_http.specs.declared.method.Method.TheVariants.{Get, Put, Delete}
 use Rattle.plain_service.specs.declared.routes.Route.{Route}
-use Rattle.plain_service.specs.declared.routes.Route.TheVariants.{Deps, Faults, File, List as AllPackages, Match, Path, Port, Profile as Language, Rdeps, Var}
+use Rattle.plain_service.specs.declared.routes.Route.TheVariants.{Deps, Faults, File, List as AllPackages, Match, Path, Port}
+use Rattle.plain_service.specs.declared.routes.Route.TheVariants.{Profile as Language, Rdeps, Var}
 use Rattle.pkg_path.specs.Paths.{PathValue, path_of, port_path}
 use Rattle.pkg_path.specs.declared.faults.PkgPathFault.{PkgPathFault}
 use Rattle.port_rules.specs.declared.records.Recorded.{Recorded}
@@ -22,7 +23,8 @@ use Rattle.plain_service.specs.Routes.{route_of}
 use Rattle.plain_service.specs.Target.{path_of_target as target_path, query_of as query_of_target}
 use Rattle.plain_service.specs.Parameters.{parameter, optional}
 use Rattle.plain_service.specs.Subpackages.{has_named}
-use Rattle.plain_service.specs.IndexRoutes.{bad_spec, depth_of, dependencies_body_of, dependencies_by, reply_to, question_on, question_of as dependency_asked, question_of_query}
+use Rattle.plain_service.specs.IndexRoutes.{bad_spec, depth_of, dependencies_body_of, dependencies_by, reply_to, question_on}
+use Rattle.plain_service.specs.IndexRoutes.{question_of as dependency_asked, question_of_query}
 use Rattle.plain_service.specs.PathParameter.{path_or_refusal, path_of_parameter, path_in}
 use Rattle.plain_service.specs.declared.dependency_routes.Direction.{Direction}
 use Rattle.plain_service.specs.declared.dependency_routes.Direction.TheVariants.{Dependencies, Dependents}
@@ -44,8 +46,11 @@ use Rattle.plain_service.specs.Spaces.{trimmed}
 use Rattle.plain_service.specs.Replies.{bad_parameter, bad_path, storage_full, json_reply, no_file, no_subpackage, removed, port_shown}
 use Rattle.plain_service.specs.Requests.{PlainRequest, reply_alone}
 use Rattle.plain_service.specs.SettingAnswers.{set_trees, set_path, profile_named, set_language}
-use Rattle.plain_service.specs.PortReplies.{value_after, value_reply, variable_at, variable_of, record_after, port_reply, port_at, port_at_path}
-use Rattle.plain_service.specs.Questions.{refused_question, question_or_refusal, with_parameter, named_file_question, resolved_question, conditions_question, spec_question, get_question, query_question, path_question, profile_question, question_on_route, question_of}
+use Rattle.plain_service.specs.PortReplies.{value_after, value_reply, variable_at, variable_of, record_after, port_reply, port_at}
+use Rattle.plain_service.specs.PortReplies.{port_at_path}
+use Rattle.plain_service.specs.Questions.{refused_question, question_or_refusal, with_parameter, named_file_question, resolved_question}
+use Rattle.plain_service.specs.Questions.{conditions_question, spec_question, get_question, query_question, path_question, profile_question}
+use Rattle.plain_service.specs.Questions.{question_on_route, question_of}
 use Rattle.plain_service.specs.Answers.{content_shown, file_asked, file_answer, port_reply_to, index_reply, answer_to}
 use Rattle.plain_service.specs.Plain.{plain}
 use Rattle.plain_service.specs.declared.questions.Question.{Question}
@@ -70,7 +75,8 @@ set_trees-fine text None = refl
 
 set_path-fine : (body : List ℕ) → ((set_path body).0.status == 503) ≡ false
 set_path-fine body =
-    elim (is_utf8 (trimmed body)) as (λ b. ((if b then set_trees (trimmed body) (search_path (trimmed body)) else reply_alone bad_path).0.status == 503) ≡ false) [
+    elim (is_utf8 (trimmed body)) as (λ b.
+        ((if b then set_trees (trimmed body) (search_path (trimmed body)) else reply_alone bad_path).0.status == 503) ≡ false) [
       | true ↦ set_trees-fine (trimmed body) (search_path (trimmed body))
       | false ↦ refl
     ]
@@ -91,7 +97,8 @@ SettlesFinely (OfFile asked) = Unit {0}
 SettlesFinely (OfPort asked) = Unit {0}
 SettlesFinely (OfIndex asked) = Unit {0}
 
-read-fine : {A : Type 0} (question : A → Question) → ((value : A) → SettlesFinely (question value)) → (read : Result A ReplyMessage) → RefusesFinely read
+read-fine : {A : Type 0} (question : A → Question) → ((value : A) → SettlesFinely (question value))
+    → (read : Result A ReplyMessage) → RefusesFinely read
     → SettlesFinely (question_or_refusal question read)
 unfolding RefusesFinely SettlesFinely
 read-fine question fine (Ok value) refuses = fine value
@@ -108,7 +115,8 @@ path_in-fine (Some text) = path-fine (path_of text)
 path_in-fine None = refl
 
 -- a parameter, or the refusal where it isn't as it must be
-parameter-fine : (question : List ℕ → Question) → ((text : List ℕ) → SettlesFinely (question text)) → (text : Option (List ℕ)) → SettlesFinely (with_parameter question text)
+parameter-fine : (question : List ℕ → Question) → ((text : List ℕ) → SettlesFinely (question text)) → (text : Option (List ℕ))
+    → SettlesFinely (with_parameter question text)
 unfolding SettlesFinely
 parameter-fine question fine (Some text) = fine text
 parameter-fine question fine None = refl
@@ -117,7 +125,8 @@ value_reply-fine : (value : Result (Option Expanded) Failed) → ((value_reply v
 value_reply-fine (Ok value) = refl
 value_reply-fine (Err failed) = refl
 
-variable_at-fine : (world : World) (name : List ℕ) (flavors : Option (List (List ℕ))) (makefile : Option (List ℕ)) → ((variable_at world name flavors makefile).status == 503) ≡ false
+variable_at-fine : (world : World) (name : List ℕ) (flavors : Option (List (List ℕ))) (makefile : Option (List ℕ))
+    → ((variable_at world name flavors makefile).status == 503) ≡ false
 variable_at-fine world name flavors (Some makefile) = value_reply-fine (value_after makefile name (means world makefile flavors))
 variable_at-fine world name flavors None = refl
 
@@ -126,7 +135,8 @@ variable_of-fine world name path = variable_at-fine world name path.flavors (pla
 
 port_reply-fine : (path : PathValue) (found : Result (Option Recorded) Failed) → ((port_reply path found).status == 503) ≡ false
 port_reply-fine path (Ok (Some recorded)) =
-    elim (has_named path.subpackage recorded.port) as (λ b. ((if b then port_shown path recorded.port else no_subpackage).status == 503) ≡ false) [
+    elim (has_named path.subpackage recorded.port) as (λ b. ((if b then port_shown path recorded.port else no_subpackage).status == 503) ≡
+        false) [
       | true ↦ refl
       | false ↦ refl
     ]
@@ -142,28 +152,34 @@ port_at_path-fine world path = port_at-fine world path (place world path.directo
 
 -- the lists
 
-dependencies_by-fine : (edges : List RootEdgeValue) (question : DependencyQuestion) (state : Option (Result PortValue FaultAt)) → ((dependencies_by edges question state).status == 503) ≡ false
+dependencies_by-fine : (edges : List RootEdgeValue) (question : DependencyQuestion) (state : Option (Result PortValue FaultAt))
+    → ((dependencies_by edges question state).status == 503) ≡ false
 dependencies_by-fine edges question None = refl
 dependencies_by-fine edges question (Some (Err fault)) = refl
 dependencies_by-fine edges question (Some (Ok port)) =
-    elim (has_named question.path.subpackage port) as (λ b. ((if b then json_reply 200 (dependencies_body_of edges question) else no_subpackage).status == 503) ≡ false) [
+    elim (has_named question.path.subpackage port) as (λ b.
+        ((if b then json_reply 200 (dependencies_body_of edges question) else no_subpackage).status == 503) ≡ false) [
       | true ↦ refl
       | false ↦ refl
     ]
 
-reply_to-fine : (world : World) (direction : Direction) (question : DependencyQuestion) → ((reply_to (roots world) (edges world) direction question).status == 503) ≡ false
+reply_to-fine : (world : World) (direction : Direction) (question : DependencyQuestion)
+    → ((reply_to (roots world) (edges world) direction question).status == 503) ≡ false
 reply_to-fine world Dependencies question =
-    dependencies_by-fine (edges world) question (option_map (λ (root : RootValue). root.state) (root_named (roots world) (port_path question.path)))
+    dependencies_by-fine (edges world) question
+        (option_map (λ (root : RootValue). root.state) (root_named (roots world) (port_path question.path)))
 reply_to-fine world Dependents question = refl
 
-question_on-fine : (path : Result PathValue ReplyMessage) (kinds : Option Kinds) (depth : Option Depth) → RefusesFinely path → RefusesFinely (question_on path kinds depth)
+question_on-fine : (path : Result PathValue ReplyMessage) (kinds : Option Kinds) (depth : Option Depth) → RefusesFinely path
+    → RefusesFinely (question_on path kinds depth)
 unfolding RefusesFinely
 question_on-fine (Err reply) kinds depth refuses = refuses
 question_on-fine (Ok path) (Some kinds) (Some depth) refuses = tt
 question_on-fine (Ok path) (Some kinds) None refuses = refl
 question_on-fine (Ok path) None depth refuses = refl
 
-dependency_asked-fine : (path : Result PathValue ReplyMessage) (kind depth : Option (List ℕ)) → RefusesFinely path → RefusesFinely (dependency_asked path kind depth)
+dependency_asked-fine : (path : Result PathValue ReplyMessage) (kind depth : Option (List ℕ)) → RefusesFinely path
+    → RefusesFinely (dependency_asked path kind depth)
 unfolding RefusesFinely
 dependency_asked-fine path (Some kind) (Some depth) refuses = question_on-fine path (kinds_of kind) (depth_of depth) refuses
 dependency_asked-fine path (Some kind) None refuses = refl
@@ -171,7 +187,8 @@ dependency_asked-fine path None depth refuses = refl
 
 question_of_query-fine : (query : List ℕ) → RefusesFinely (question_of_query query)
 question_of_query-fine query =
-    dependency_asked-fine (path_in query) (optional (codes "kind") query) (optional (codes "depth") query) (path_in-fine (parameter (codes "path") query))
+    dependency_asked-fine (path_in query) (optional (codes "kind") query) (optional (codes "depth") query)
+        (path_in-fine (parameter (codes "path") query))
 
 -- the questions
 
@@ -199,24 +216,30 @@ unfolding SettlesFinely
 resolved-fine method body (Ok name) = named_file-fine method body name
 resolved-fine method body (Err fault) = refl
 
-variable-fine : (query name : List ℕ) → SettlesFinely (question_or_refusal (λ path. OfPort (Variable (record { path = path; name = name }))) (path_in query))
+variable-fine : (query name : List ℕ)
+    → SettlesFinely (question_or_refusal (λ path. OfPort (Variable (record { path = path; name = name }))) (path_in query))
 unfolding SettlesFinely
 variable-fine query name =
-    read-fine (λ path. OfPort (Variable (record { path = path; name = name }))) (λ path. tt) (path_in query) (path_in-fine (parameter (codes "path") query))
+    read-fine (λ path. OfPort (Variable (record { path = path; name = name }))) (λ path. tt) (path_in query)
+        (path_in-fine (parameter (codes "path") query))
 
 get-fine : (query : List ℕ) (route : Route) → SettlesFinely (get_question query route)
 unfolding SettlesFinely
-get-fine query Deps = read-fine (λ asked. OfIndex (index.Dependencies Dependencies asked)) (λ asked. tt) (question_of_query query) (question_of_query-fine query)
+get-fine query Deps = read-fine (λ asked. OfIndex (index.Dependencies Dependencies asked)) (λ asked. tt) (question_of_query query)
+    (question_of_query-fine query)
 get-fine query Faults = tt
 get-fine query File = refl
-get-fine query AllPackages = parameter-fine (λ text. conditions_question (query_conditions text)) (λ text. conditions-fine (query_conditions text)) (optional (codes "where") query)
+get-fine query AllPackages = parameter-fine (λ text. conditions_question (query_conditions text))
+    (λ text. conditions-fine (query_conditions text)) (optional (codes "where") query)
 get-fine query Match = parameter-fine spec_question spec-fine (parameter (codes "spec") query)
 get-fine query Path = refl
 get-fine query Port = read-fine (λ path. OfPort (Record path)) (λ path. tt) (path_in query) (path_in-fine (parameter (codes "path") query))
 get-fine query Language = refl
-get-fine query Rdeps = read-fine (λ asked. OfIndex (index.Dependencies Dependents asked)) (λ asked. tt) (question_of_query query) (question_of_query-fine query)
+get-fine query Rdeps = read-fine (λ asked. OfIndex (index.Dependencies Dependents asked)) (λ asked. tt) (question_of_query query)
+    (question_of_query-fine query)
 get-fine query Var =
-    parameter-fine (λ name. question_or_refusal (λ path. OfPort (Variable (record { path = path; name = name }))) (path_in query)) (variable-fine query)
+    parameter-fine (λ name. question_or_refusal (λ path. OfPort (Variable (record { path = path; name = name }))) (path_in query))
+        (variable-fine query)
     (parameter (codes "name") query)
 
 query-fine : (query : List ℕ) (route : Route) (method : Method) → SettlesFinely (query_question query route method)
@@ -243,7 +266,8 @@ route-fine request None = refl
 route-fine request (Some Deps) = query-fine (query_of_target request.target) Deps request.method
 route-fine request (Some Faults) = query-fine (query_of_target request.target) Faults request.method
 route-fine request (Some File) =
-    parameter-fine (λ text. resolved_question request.method request.body (resolved text)) (λ text. resolved-fine request.method request.body (resolved text))
+    parameter-fine (λ text. resolved_question request.method request.body (resolved text))
+        (λ text. resolved-fine request.method request.body (resolved text))
     (parameter (codes "name") (query_of_target request.target))
 route-fine request (Some AllPackages) = query-fine (query_of_target request.target) AllPackages request.method
 route-fine request (Some Match) = query-fine (query_of_target request.target) Match request.method
@@ -284,10 +308,12 @@ answer_to-fine world (OfFile asked) fine = file-fine asked (get (files_in world)
 answer_to-fine world (OfPort asked) fine = port-fine world asked
 answer_to-fine world (OfIndex asked) fine = index-fine world asked
 
-settle_change-fine : (world : World) (reply : ReplyMessage) (change : Option Change) → (reply.status == 503) ≡ false → ((settle_change world reply change).0.status == 503) ≡ false
+settle_change-fine : (world : World) (reply : ReplyMessage) (change : Option Change) → (reply.status == 503) ≡ false
+    → ((settle_change world reply change).0.status == 503) ≡ false
 settle_change-fine world reply None fine = fine
 settle_change-fine world reply (Some change) fine =
-    elim (overfills world change) as (λ b. ((if◌then◌else◌ {A = ReplyMessage × World} b (storage_full, world) (reply, changed world change)).0.status == 503) ≡ false) [
+    elim (overfills world change) as (λ b.
+        ((if◌then◌else◌ {A = ReplyMessage × World} b (storage_full, world) (reply, changed world change)).0.status == 503) ≡ false) [
       | true ↦ refl
       | false ↦ fine
     ]

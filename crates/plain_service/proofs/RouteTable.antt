@@ -1,5 +1,6 @@
 -- What the router of the routes finds is what their table has.
-use Rattle.std.proofs.Common.{◌≡◌, ℕ, Bool, true, false, List, [], ◌∷◌, map, Option, Some, None, option_map, refl, sym, ap, ◌∙◌, if◌then◌else◌}
+use Rattle.std.proofs.Common.{◌≡◌, ℕ, Bool, true, false, List, [], ◌∷◌, map, Option, Some, None, option_map, refl, sym, ap, ◌∙◌}
+use Rattle.std.proofs.Common.{if◌then◌else◌}
 use Rattle.std.specs.Str.{bytes_eq}
 use Rattle.matchit.specs.Rows.{RowsOf}
 use Rattle.matchit.specs.Router.{RouteOf}
@@ -11,7 +12,8 @@ use Rattle.plain_service.proofs.LiteralRoutes.{row_of, seek_literal}
 
 picks : (here : Bool) (entry : List ℕ × Route) (others : Option (RouteOf Route)) (later : Option Route)
     → option_map (λ (found : RouteOf Route). found.value) others ≡ later
-    → option_map (λ (found : RouteOf Route). found.value) (if here then Some (route_row entry).1 else others) ≡ (if here then Some entry.1 else later)
+    → option_map (λ (found : RouteOf Route). found.value) (if here then Some (route_row entry).1 else others) ≡
+        (if here then Some entry.1 else later)
 picks true entry others later same = refl
 picks false entry others later same = same
 

@@ -1,5 +1,6 @@
 -- Where the path of a target in absolute form begins.
-use Rattle.std.proofs.Common.{◌≡◌, ◌≢◌, ℕ, suc, ◌+◌, ◌<◌, ◌≤◌, false, List, [], ◌∷◌, ◌++◌, length, drop, get_or, sym, ap, ◌∙◌, arith, add-one, drop-cons}
+use Rattle.std.proofs.Common.{◌≡◌, ◌≢◌, ℕ, suc, ◌+◌, ◌<◌, ◌≤◌, false, List, [], ◌∷◌, ◌++◌, length, drop, get_or, sym, ap, ◌∙◌, arith}
+use Rattle.std.proofs.Common.{add-one, drop-cons}
 use Rattle.std.specs.List.{position_or_len, after_first}
 use Rattle.std.proofs.lemmas.List.{drop_all}
 use Rattle.std.proofs.lemmas.List.Sums.{position_or_len_is}
@@ -22,7 +23,8 @@ from_slash rest at within here before =
 pub without_slash : (rest : List ℕ) → ((i : ℕ) → i < length rest → get_or rest i 0 ≢ 47) → 47 ∷ [] ≡ 47 ∷ after_first is_slash rest
 without_slash rest none =
     let place : position_or_len is_slash rest ≡ length rest =
-    position_or_len_is is_slash rest (length rest) 0 (omega arith) (λ k below. no_slash (get_or rest k 0) (none k below)) (λ h. absurd (omega arith)) in
+    position_or_len_is is_slash rest (length rest) 0 (omega arith) (λ k below. no_slash (get_or rest k 0) (none k below))
+        (λ h. absurd (omega arith)) in
     let past : length rest ≤ length rest + 1 = omega arith in
     rw place (ap (λ behind. 47 ∷ behind) (sym (drop_all (length rest + 1) rest past)))
 

@@ -12,7 +12,8 @@ stops : (byte : ℕ) (rest : List ℕ) → is_space byte ≡ false → skip_spac
 unfolding skip_spaces
 stops byte rest is = cond-false (is_space byte) (skip_spaces rest) (byte ∷ rest) is
 
-pub first_skipped : (text rest all : List ℕ) (first : ℕ) → text ≡ first ∷ rest → is_space first ≡ true → skip_spaces text ≡ all → skip_spaces rest ≡ all
+pub first_skipped : (text rest all : List ℕ) (first : ℕ) → text ≡ first ∷ rest → is_space first ≡ true → skip_spaces text ≡ all
+    → skip_spaces rest ≡ all
 first_skipped text rest all first is space same = sym (skips first rest space) ∙ ap skip_spaces (sym is) ∙ same
 
 pub first_stays : (text rest all : List ℕ) (first : ℕ) → text ≡ first ∷ rest → is_space first ≡ false → skip_spaces text ≡ all → text ≡ all
@@ -26,10 +27,12 @@ none_left text all is same = is ∙ ap skip_spaces (sym is) ∙ same
 turned : (text rest : List ℕ) (last : ℕ) → text ≡ rest ++ last ∷ [] → reverse text ≡ last ∷ reverse rest
 turned text rest last is = ap reverse is ∙ reverse-append rest (last ∷ [])
 
-pub last_skipped : (text rest all : List ℕ) (last : ℕ) → text ≡ rest ++ last ∷ [] → is_space last ≡ true → skip_spaces (reverse text) ≡ all → skip_spaces (reverse rest) ≡ all
+pub last_skipped : (text rest all : List ℕ) (last : ℕ) → text ≡ rest ++ last ∷ [] → is_space last ≡ true → skip_spaces (reverse text) ≡ all
+    → skip_spaces (reverse rest) ≡ all
 last_skipped text rest all last is space same = first_skipped (reverse text) (reverse rest) all last (turned text rest last is) space same
 
-pub last_stays : (text rest all : List ℕ) (last : ℕ) → text ≡ rest ++ last ∷ [] → is_space last ≡ false → skip_spaces (reverse text) ≡ all → text ≡ reverse all
+pub last_stays : (text rest all : List ℕ) (last : ℕ) → text ≡ rest ++ last ∷ [] → is_space last ≡ false
+    → skip_spaces (reverse text) ≡ all → text ≡ reverse all
 last_stays text rest all last is other same =
     sym (reverse-reverse text) ∙ ap reverse (first_stays (reverse text) (reverse rest) all last (turned text rest last is) other same)
 

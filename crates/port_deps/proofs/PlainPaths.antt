@@ -1,5 +1,6 @@
 -- The path of an item without a comma has none.
-use Rattle.std.proofs.Common.{◌++◌, ◌≡◌, ◌∙◌, ap, sym, refl, ℕ, zero, suc, Bool, true, false, not, ◌&&◌, ◌==◌, ◌||◌, if◌then◌else◌, List, [], ◌∷◌, append-nil, drop, take, length, Option, Some, None, IfSome, Ok, Err}
+use Rattle.std.proofs.Common.{◌++◌, ◌≡◌, ◌∙◌, ap, sym, refl, ℕ, zero, suc, Bool, true, false, not, ◌&&◌, ◌==◌, ◌||◌, if◌then◌else◌, List}
+use Rattle.std.proofs.Common.{[], ◌∷◌, append-nil, drop, take, length, Option, Some, None, IfSome, Ok, Err}
 use Rattle.std.proofs.lemmas.Bool.{and_from, and_parts, false≢true}
 use Rattle.std.proofs.lemmas.List.Splits.{slice_split-cons_no}
 use Rattle.std.specs.List.{list_all, list_any, prefix_len, slice_split, onto_first}
@@ -11,7 +12,8 @@ use Rattle.text_parts.proofs.PartTexts.{parts_are_between}
 use Rattle.pkg_path.specs.Paths.{PathValue, canonical, elements_of, path_if_one, path_of, port_path, value_of}
 use Rattle.general_facts.specs.Ascii.{comma}
 use Rattle.pkg_path.specs.declared.faults.PkgPathFault.TheVariants.{Empty, TwoSubpackages, BadCharacter}
-use Rattle.port_deps.specs.ItemText.{NamesPlainPath, PartsValue, WantedValue, at_sign, cut_at_colons, cut_at_place, has_comma, is_sign, is_spec, named_parts, parts_of_item, spec_if_one, spec_text, wanted_by, wanted_in}
+use Rattle.port_deps.specs.ItemText.{NamesPlainPath, PartsValue, WantedValue, at_sign, cut_at_colons, cut_at_place, has_comma, is_sign}
+use Rattle.port_deps.specs.ItemText.{is_spec, named_parts, parts_of_item, spec_if_one, spec_text, wanted_by, wanted_in}
 use Rattle.general_facts.specs.Ascii.{colon}
 
 abbrev is_comma : ℕ → Bool
@@ -56,11 +58,13 @@ plain-parts item none =
     (parts_are_between colon is_apart item (all-apart item none))
 
 of_two-plain : (first second : List ℕ) (spec : Bool) → is_plain first ≡ true → is_plain second ≡ true
-    → is_plain (let parts : PartsValue = (if spec then record { spec = Some first; path = second } else record { spec = None; path = first }) in parts).path ≡ true
+    → is_plain (let parts : PartsValue =
+        (if spec then record { spec = Some first; path = second } else record { spec = None; path = first }) in parts).path ≡ true
 of_two-plain first second true a b = b
 of_two-plain first second false a b = a
 
-named-plain : (parts : List (List ℕ)) → list_all is_plain parts ≡ true → IfSome (named_parts parts) (λ (parts : PartsValue). is_plain parts.path ≡ true)
+named-plain : (parts : List (List ℕ)) → list_all is_plain parts ≡ true
+    → IfSome (named_parts parts) (λ (parts : PartsValue). is_plain parts.path ≡ true)
 named-plain [] e = tt
 named-plain (path ∷ []) e = (and_parts (is_plain path) true e).0
 named-plain (first ∷ second ∷ []) e =
@@ -88,7 +92,8 @@ unfolding canonical
 whole text = append-nil (text ++ []) ∙ append-nil text
 
 read_by : (text : List ℕ) (elements : List (List ℕ)) (empty two well : Bool) → elements ≡ text ∷ []
-    → IfSome (result_ok (if empty then Err Empty else if two then Err TwoSubpackages else if well then Ok (value_of elements) else Err BadCharacter)) (λ path. port_path path ≡ text)
+    → IfSome (result_ok (if empty then Err Empty else if two then Err TwoSubpackages else if well then Ok (value_of elements) else Err
+        BadCharacter)) (λ path. port_path path ≡ text)
 read_by text elements true two well is = tt
 read_by text elements false true well is = tt
 read_by text elements false false true is = ap (λ e. port_path (value_of e)) is ∙ whole text
@@ -100,7 +105,8 @@ plain-path text none = read_by text (elements_of text) _ _ _ (uncut text none)
 
 -- ---- so the path that such an item names has none
 
-take_by : (n : ℕ) (text : List ℕ) (comma : Bool) → (comma || has_comma text) ≡ false → (has_comma text ≡ false → has_comma (take n text) ≡ false)
+take_by : (n : ℕ) (text : List ℕ) (comma : Bool) → (comma || has_comma text) ≡ false
+    → (has_comma text ≡ false → has_comma (take n text) ≡ false)
     → (comma || has_comma (take n text)) ≡ false
 take_by n text true none rest = none
 take_by n text false none rest = rest none
@@ -114,14 +120,17 @@ none-before : (text : List ℕ) (at : Option ℕ) → has_comma text ≡ false �
 none-before text None none = none
 none-before text (Some at) none = none-take at text none
 
-with_spec : (text : List ℕ) (path : Option PathValue) (spec : Option (List ℕ)) → has_comma text ≡ false → IfSome path (λ one. port_path one ≡ text)
-    → IfSome (option_and_then (λ one. option_and_then (λ given. Some (let wanted : WantedValue = record { path = one; spec = given } in wanted)) spec) path)
+with_spec : (text : List ℕ) (path : Option PathValue) (spec : Option (List ℕ)) → has_comma text ≡ false
+    → IfSome path (λ one. port_path one ≡ text)
+    → IfSome (option_and_then
+        (λ one. option_and_then (λ given. Some (let wanted : WantedValue = record { path = one; spec = given } in wanted)) spec) path)
     (λ wanted. has_comma (port_path wanted.path) ≡ false)
 with_spec text None spec none is = tt
 with_spec text (Some path) None none is = tt
 with_spec text (Some path) (Some spec) none is = ap has_comma is ∙ none
 
-at_spec : (text : List ℕ) (spec : Option (List ℕ)) → has_comma text ≡ false → IfSome (option_and_then (wanted_by text) spec) (λ wanted. has_comma (port_path wanted.path) ≡ false)
+at_spec : (text : List ℕ) (spec : Option (List ℕ)) → has_comma text ≡ false → IfSome (option_and_then (wanted_by text) spec)
+    (λ wanted. has_comma (port_path wanted.path) ≡ false)
 at_spec text None none = tt
 at_spec text (Some spec) none = with_spec text (path_if_one text) (spec_if_one spec) none (plain-path text none)
 
@@ -130,7 +139,8 @@ in_parts : (parts : Option PartsValue) → IfSome parts (λ (parts : PartsValue)
 in_parts None plain = tt
 in_parts (Some parts) plain =
     let cut = at_sign parts.path in
-    at_spec cut.before (spec_text parts.spec cut.behind) (none-before parts.path (position is_sign parts.path) (none-plain parts.path plain))
+    at_spec cut.before (spec_text parts.spec cut.behind)
+        (none-before parts.path (position is_sign parts.path) (none-plain parts.path plain))
 
 pub plain-item : (item : List ℕ) → has_comma item ≡ false → NamesPlainPath item
 plain-item item none = in_parts (named_parts (parts_of_item item)) (named-plain (parts_of_item item) (plain-parts item none))

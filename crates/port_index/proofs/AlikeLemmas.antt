@@ -35,11 +35,13 @@ module _ (old new : List ℕ → PathOutcome) where
       ∙ ap (λ more. targets_in (old path) ++ more) (targets-alike paths (others path paths alike))
 
 -- what items name depends on their texts alone
-pub targets-by_items : (new old : List DependValue) → dependency_items new ≡ dependency_items old → filter_map target_by new ≡ filter_map target_by old
+pub targets-by_items : (new old : List DependValue) → dependency_items new ≡ dependency_items old
+    → filter_map target_by new ≡ filter_map target_by old
 targets-by_items new old same =
     sym (by_texts new) ∙ ap (filter_map (λ item. target_in (wanted_of item))) same ∙ by_texts old
   where
-    by_texts : (depends : List DependValue) → filter_map (λ item. target_in (wanted_of item)) (dependency_items depends) ≡ filter_map target_by depends
+    by_texts : (depends : List DependValue) → filter_map (λ item. target_in (wanted_of item)) (dependency_items depends) ≡
+        filter_map target_by depends
     by_texts [] = refl
     by_texts (depend ∷ depends) = ap (cons_option (target_by depend)) (by_texts depends)
 

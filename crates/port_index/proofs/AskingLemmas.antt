@@ -1,5 +1,6 @@
 -- Rows for which a name was asked that passes a test.
-use Rattle.std.proofs.Common.{◌≡◌, ◌∙◌, ap, sym, refl, ℕ, Bool, true, false, ◌||◌, List, [], ◌∷◌, Option, Some, None, option_map, String, Global, string_bytes, length, slice_get, arith}
+use Rattle.std.proofs.Common.{◌≡◌, ◌∙◌, ap, sym, refl, ℕ, Bool, true, false, ◌||◌, List, [], ◌∷◌, Option, Some, None, option_map, String}
+use Rattle.std.proofs.Common.{Global, string_bytes, length, slice_get, arith}
 use Rattle.std.proofs.lemmas.Map.Text.{is_eq-slice_cmp}
 use Rattle.std.specs.Cmp.Lexicographic.{slice_cmp}
 use Rattle.std.specs.List.{list_any}
@@ -29,8 +30,10 @@ or_none true = refl
 or_none false = refl
 
 -- a name is the one, if it is among them
-pub alone-contains : (names : BTreeSet (String Global)) (only : String Global) → length (keys names) ≡ 1 → slice_get (keys names) 0 ≡ Some only → (name : List ℕ)
+pub alone-contains : (names : BTreeSet (String Global)) (only : String Global) → length (keys names) ≡ 1
+    → slice_get (keys names) 0 ≡ Some only → (name : List ℕ)
     → contains_text names name ≡ bytes_eq name (string_bytes only)
 alone-contains names only one first name =
-    ap (list_any (λ (other : String Global). is_eq (slice_cmp nat_cmp name (string_bytes other)))) (one_of_these (keys names) only one first)
+    ap (list_any (λ (other : String Global). is_eq (slice_cmp nat_cmp name (string_bytes other))))
+        (one_of_these (keys names) only one first)
     ∙ or_none (is_eq (slice_cmp nat_cmp name (string_bytes only))) ∙ is_eq-slice_cmp name (string_bytes only)

@@ -1,5 +1,6 @@
 -- A path without a comma has a makefile only if it is one of the files' directories.
-use Rattle.std.proofs.Common.{suc, ◌≡◌, ◌∙◌, sym, ap, subst, refl, arith, ℕ, ◌+◌, ◌-◌, ◌<◌, Bool, true, false, cond, not, ◌&&◌, ◌||◌, ◌==◌, if◌then◌else◌, List, [], ◌∷◌, ◌++◌, append-nil, length, length-append, drop, take, Option, Some, None, codes}
+use Rattle.std.proofs.Common.{suc, ◌≡◌, ◌∙◌, sym, ap, subst, refl, arith, ℕ, ◌+◌, ◌-◌, ◌<◌, Bool, true, false, cond, not, ◌&&◌, ◌||◌, ◌==◌}
+use Rattle.std.proofs.Common.{if◌then◌else◌, List, [], ◌∷◌, ◌++◌, append-nil, length, length-append, drop, take, Option, Some, None, codes}
 use Rattle.std.proofs.Math.Seq.{take-append_seam}
 use Rattle.std.proofs.lemmas.Bool.{and_parts, false≢true, or_right}
 use Rattle.std.proofs.lemmas.Grind.{common_steps}
@@ -22,7 +23,8 @@ use Rattle.port_deps.proofs.PlainPaths.{uncut}
 use Rattle.port_index.specs.Efforts.{is_there}
 use Rattle.port_index.specs.FilledRows.{is_one_of}
 use Rattle.port_index.specs.Makefiles.{AreOfDirectories}
-use Rattle.port_index.specs.TreePaths.{after_slash, directories, directory_below, listable_directory, if_directory, is_slash, without_suffix}
+use Rattle.port_index.specs.TreePaths.{after_slash, directories, directory_below, listable_directory, if_directory, is_slash}
+use Rattle.port_index.specs.TreePaths.{without_suffix}
 use Rattle.port_index.specs.PathOutcomes.{finding_at, finding_in, finding_named, finding_of, own_directory}
 use Rattle.port_index.proofs.MakefileLemmas.{directory-there}
 use Rattle.port_index.proofs.MakefileNames.{IsNamedBy, in_tree, is_no_dot, last, named_in, named_own}
@@ -33,8 +35,10 @@ use Rattle.port_index.proofs.PlaceLemmas.{ends-so, with_slashes-end}
 
 after_next : (byte : ℕ) (more : List ℕ) → is_slash byte ≡ false → after_slash (byte ∷ more) ≡ after_slash more
 after_next byte more none =
-    ap (λ b. cond (b || list_any is_slash more) (Some (drop (cond (not b) (1 + position_or_len is_slash more) 0 + 1) (byte ∷ more))) None) none
-    ∙ ap (λ n. cond (list_any is_slash more) (Some (drop n (byte ∷ more))) None) (let same : 1 + position_or_len is_slash more + 1 ≡ suc (position_or_len is_slash more + 1) = omega arith in same)
+    ap (λ b. cond (b || list_any is_slash more) (Some (drop (cond (not b) (1 + position_or_len is_slash more) 0 + 1) (byte ∷ more))) None)
+        none
+    ∙ ap (λ n. cond (list_any is_slash more) (Some (drop n (byte ∷ more))) None) (let same : 1 + position_or_len is_slash more + 1 ≡ suc
+        (position_or_len is_slash more + 1) = omega arith in same)
 
 apart_by : (mark rest : Bool) → (mark || rest) ≡ false → (mark ≡ false) × (rest ≡ false)
 apart_by true rest none = absurd (false≢true (sym none))
@@ -58,8 +62,11 @@ named-below : (part : List ℕ) (stem : List (List ℕ)) → list_any is_slash p
     → listable_directory (with_slashes (part ∷ (stem ++ last ∷ []))) ≡ if_directory (directory_below (part ++ with_slashes stem))
 unfolding listable_directory
 named-below part stem none =
-    ap (λ name. option_and_then if_directory (option_map directory_below (option_and_then after_slash (without_suffix (codes "/Makefile") name)))) (with_slashes-end (part ∷ stem))
-    ∙ ap (λ text. option_and_then if_directory (option_map directory_below (option_and_then after_slash text))) (without-own (with_slashes (part ∷ stem)))
+    ap (λ name. option_and_then if_directory
+        (option_map directory_below (option_and_then after_slash (without_suffix (codes "/Makefile") name))))
+        (with_slashes-end (part ∷ stem))
+    ∙ ap (λ text. option_and_then if_directory (option_map directory_below (option_and_then after_slash text)))
+        (without-own (with_slashes (part ∷ stem)))
 
 none_between : (mark plain : Bool) → (plain && not mark) ≡ true → mark ≡ false
 none_between true true e = absurd (false≢true e)
@@ -82,11 +89,13 @@ with_slashes-some (part ∷ parts) some = with_slashes-cut part parts
 
 with_slashes-parts : (directory : List ℕ) → with_slashes (parts_of_name directory) ≡ slash ∷ directory
 with_slashes-parts directory =
-    with_slashes-some (parts_of_name directory) (omega (arith, length-slice_split (λ byte. byte == slash) directory)) ∙ ap (λ text. slash ∷ text) (join_with_byte-slice_split 47 directory)
+    with_slashes-some (parts_of_name directory) (omega (arith, length-slice_split (λ byte. byte == slash) directory))
+        ∙ ap (λ text. slash ∷ text) (join_with_byte-slice_split 47 directory)
 
 module _ (stem : List (List ℕ)) (name : List ℕ) (named : IsNamedBy stem name) where
   apart : list_any is_slash named.part ≡ false
-  apart = none-in named.part (and_parts (list_all (is_between slash is_plain) named.part) (are_between slash is_plain (stem ++ last ∷ [])) named.between).0
+  apart = none-in named.part (and_parts (list_all (is_between slash is_plain) named.part)
+      (are_between slash is_plain (stem ++ last ∷ [])) named.between).0
 
   below : listable_directory name ≡ if_directory (directory_below (named.part ++ with_slashes stem))
   below = ap listable_directory named.is ∙ named-below named.part stem apart
@@ -100,7 +109,8 @@ own-named name named =
     ∙ ap (λ text. if_directory (directory_below text)) (append-nil named.part)
     ∙ ap if_directory (none-after named.part (apart [] name named))
 
-path-named : (path name : List ℕ) → is_bare_directory path ≡ true → IsNamedBy (parts_of_name path) name → listable_directory name ≡ Some path
+path-named : (path name : List ℕ) → is_bare_directory path ≡ true → IsNamedBy (parts_of_name path) name
+    → listable_directory name ≡ Some path
 path-named path name bare named =
     below (parts_of_name path) name named
     ∙ ap (λ text. if_directory (directory_below (named.part ++ text))) (with_slashes-parts path)
@@ -109,7 +119,8 @@ path-named path name bare named =
 
 -- ---- a makefile that is found is there
 
-holds_by : (p : List ℕ → Bool) (one name : List ℕ) (rest : Option (List ℕ)) (is : Bool) → p one ≡ is → (if is then Some one else rest) ≡ Some name → (rest ≡ Some name → p name ≡ true) → p name ≡ true
+holds_by : (p : List ℕ → Bool) (one name : List ℕ) (rest : Option (List ℕ)) (is : Bool) → p one ≡ is → (if is then Some one else rest) ≡
+    Some name → (rest ≡ Some name → p name ≡ true) → p name ≡ true
 holds_by p one name rest true e found more = let same : one ≡ name = cc in ap p (sym same) ∙ e
 holds_by p one name rest false e found more = more found
 
@@ -119,30 +130,36 @@ find-holds p (one ∷ names) name found = holds_by p one name (find p names) (p 
 
 module _ (world : World) (trees : IsSearchPath (search_path_of world)) where
   all_trees : list_all is_tree (search_path_of world) ≡ true
-  all_trees = last_of (nat_le 1 (length (search_path_of world))) (nat_le (length (search_path_of world)) 8) (list_all is_tree (search_path_of world)) trees
+  all_trees = last_of (nat_le 1 (length (search_path_of world))) (nat_le (length (search_path_of world)) 8)
+      (list_all is_tree (search_path_of world)) trees
     where
       last_of : (a b c : Bool) → (a && b && c) ≡ true → c ≡ true
       last_of a b c e = grind (arith, common_steps)
 
-  there-place : (flavors : Option (List (List ℕ))) (makefile : Option (List ℕ)) → is_there (finding_of world flavors makefile).outcome ≡ true → (name : List ℕ) × (makefile ≡ Some name)
+  there-place : (flavors : Option (List (List ℕ))) (makefile : Option (List ℕ)) → is_there (finding_of world flavors makefile).outcome ≡
+      true → (name : List ℕ) × (makefile ≡ Some name)
   there-place flavors None there = absurd (false≢true there)
   there-place flavors (Some name) there = (name, refl)
 
   -- a directory is one of the files' if the name of its makefile says so
-  module _ (path directory : List ℕ) (flavors : Option (List (List ℕ))) (there : is_there (finding_in world directory flavors).outcome ≡ true) where
+  module _ (path directory : List ℕ) (flavors : Option (List (List ℕ)))
+      (there : is_there (finding_in world directory flavors).outcome ≡ true) where
     found : (name : List ℕ) × (place world directory ≡ Some name)
     found = there-place flavors (place world directory) there
 
     among : listable_directory found.0 ≡ Some path → is_one_of path (directories (files_in world)) ≡ true
-    among is = directory-there path found.0 is (files_in world) (find-holds (contains_key (files_in world)) (candidates (search_path_of world) directory) found.0 found.1)
+    among is = directory-there path found.0 is (files_in world)
+        (find-holds (contains_key (files_in world)) (candidates (search_path_of world) directory) found.0 found.1)
 
-  own : (path : List ℕ) → path ≡ own_directory → is_there (finding_in world path None).outcome ≡ true → is_one_of path (directories (files_in world)) ≡ true
+  own : (path : List ℕ) → path ≡ own_directory → is_there (finding_in world path None).outcome ≡ true
+      → is_one_of path (directories (files_in world)) ≡ true
   own path is there =
       let at = found path path None there in
       let tree = in_tree (files_in world) path at.0 (search_path_of world) all_trees at.1 in
       among path path None there (own-named at.0 (named_own tree.0 tree.1 path at.0 tree.2 is) ∙ ap Some (sym is))
 
-  plain : (path : List ℕ) → has_comma path ≡ false → (value : Option PathValue) → path_if_one path ≡ value → is_there (finding_named world value).outcome ≡ true
+  plain : (path : List ℕ) → has_comma path ≡ false → (value : Option PathValue) → path_if_one path ≡ value
+      → is_there (finding_named world value).outcome ≡ true
       → is_one_of path (directories (files_in world)) ≡ true
   plain path none None is there = absurd (false≢true there)
   plain path none (Some value) is there =
@@ -157,7 +174,8 @@ module _ (world : World) (trees : IsSearchPath (search_path_of world)) where
       among path path value.flavors here (path-named path at.0 bare (named_in tree.0 tree.1 path at.0 tree.2 parts))
 
   by_own : (path : List ℕ) (is : Bool) → bytes_eq path own_directory ≡ is → has_comma path ≡ false
-      → is_there (if is then finding_in world path None else finding_named world (path_if_one path)).outcome ≡ true → is_one_of path (directories (files_in world)) ≡ true
+      → is_there (if is then finding_in world path None else finding_named world (path_if_one path)).outcome ≡ true
+      → is_one_of path (directories (files_in world)) ≡ true
   by_own path true is none there = own path ((bytes_eq-Decides path own_directory).0 is) there
   by_own path false is none there = plain path none (path_if_one path) refl there
 

@@ -29,7 +29,8 @@ module _ (world : World) where
       (ap (λ row. if is_none row then weight path else 0) (fills.filled path)
       ∙ has_row weight path (Some (outcome_at world path)) (old path) (is_one_of path paths) refl) i
 
-  sum-lacking : (weight : List ℕ → ℕ) (entries : Entries) (paths : List (List ℕ)) → sum_by weight (lacking entries paths) ≡ sum_by (if_lacking entries weight) (in_order paths)
+  sum-lacking : (weight : List ℕ → ℕ) (entries : Entries) (paths : List (List ℕ)) → sum_by weight (lacking entries paths) ≡ sum_by
+      (if_lacking entries weight) (in_order paths)
   sum-lacking weight entries paths = sum-filter (λ path. is_none (entries path)) weight (in_order paths)
 
   pub sum-on : (weight : List ℕ → ℕ) (paths more : List (List ℕ)) (old new : Entries) → Fills world paths old new
@@ -41,14 +42,17 @@ module _ (world : World) where
       ∙ sym (sum-lacking weight old (paths ++ more))
 
 -- the same paths in another list
-pub lacking-same : (entries : Entries) (paths others : List (List ℕ)) → in_order paths ≡ in_order others → lacking entries paths ≡ lacking entries others
+pub lacking-same : (entries : Entries) (paths others : List (List ℕ)) → in_order paths ≡ in_order others
+    → lacking entries paths ≡ lacking entries others
 lacking-same entries paths others same = ap (filter (λ path. is_none (entries path))) same
 
 among_is : (text : List ℕ) (texts : List (List ℕ)) → among text texts ≡ is_one_of text texts
 among_is text texts = ap (λ test. list_any test texts) (λ i one. (is_eq-slice_cmp text one ∙ bytes_eq-sym text one) i)
 
 -- paths in order are the same where the same paths are among them
-pub in_order-same : (paths others : List (List ℕ)) → ((path : List ℕ) → is_one_of path paths ≡ is_one_of path others) → in_order paths ≡ in_order others
+pub in_order-same : (paths others : List (List ℕ)) → ((path : List ℕ) → is_one_of path paths ≡ is_one_of path others)
+    → in_order paths ≡ in_order others
 in_order-same paths others same =
     same_in_order (in_order paths) (in_order others) (in_order-sorted paths) (in_order-sorted others)
-    (λ path. among-in_order (eq_by_cmp by_bytes path) paths ∙ among_is path paths ∙ same path ∙ sym (among_is path others) ∙ sym (among-in_order (eq_by_cmp by_bytes path) others))
+    (λ path. among-in_order (eq_by_cmp by_bytes path) paths ∙ among_is path paths ∙ same path ∙ sym (among_is path others)
+        ∙ sym (among-in_order (eq_by_cmp by_bytes path) others))

@@ -22,17 +22,21 @@ regroup : (a b c : Bool) → (a || (b || c)) ≡ ((a || b) || c)
 regroup true b c = refl
 regroup false b c = refl
 
-pub one_of-append : (path : List ℕ) (paths more : List (List ℕ)) → is_one_of path (paths ++ more) ≡ (is_one_of path paths || is_one_of path more)
+pub one_of-append : (path : List ℕ) (paths more : List (List ℕ))
+    → is_one_of path (paths ++ more) ≡ (is_one_of path paths || is_one_of path more)
 one_of-append path [] more = refl
 one_of-append path (first ∷ paths) more =
-    ap (λ b. bytes_eq first path || b) (one_of-append path paths more) ∙ regroup (bytes_eq first path) (is_one_of path paths) (is_one_of path more)
+    ap (λ b. bytes_eq first path || b) (one_of-append path paths more)
+        ∙ regroup (bytes_eq first path) (is_one_of path paths) (is_one_of path more)
 
 -- a path is one of two lists of paths, which are put in order
-pub one_of-in_order : (path : List ℕ) (paths more : List (List ℕ)) → is_one_of path (in_order (paths ++ more)) ≡ (is_one_of path paths || is_one_of path more)
+pub one_of-in_order : (path : List ℕ) (paths more : List (List ℕ)) → is_one_of path (in_order (paths ++ more)) ≡
+    (is_one_of path paths || is_one_of path more)
 one_of-in_order path paths more = among-in_order (λ one. bytes_eq one path) (paths ++ more) ∙ one_of-append path paths more
 
 module _ (world : World) where
-  pub known-of : (paths : List (List ℕ)) (entries : Entries) → ((path : List ℕ) → is_one_of path paths ≡ true → known_in entries path ≡ outcome_at world path) → AreKnown world entries paths
+  pub known-of : (paths : List (List ℕ)) (entries : Entries)
+      → ((path : List ℕ) → is_one_of path paths ≡ true → known_in entries path ≡ outcome_at world path) → AreKnown world entries paths
   known-of [] entries are = tt
   known-of (path ∷ paths) entries are = (
     are path (ap (λ b. b || is_one_of path paths) ((bytes_eq-Decides path path).1 refl)),

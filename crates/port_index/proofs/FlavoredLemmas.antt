@@ -8,7 +8,8 @@ use Rattle.port_index.specs.Dependencies.{target_in}
 use Rattle.port_index.specs.Flavored.{flavored_target, if_flavored}
 
 -- they are what each item names, if that has a comma
-pub filter-targets : {X : Type 0} (target : X → Option (List ℕ)) (items : List X) → filter_map (λ item. if_flavored (target item)) items ≡ filter has_comma (filter_map target items)
+pub filter-targets : {X : Type 0} (target : X → Option (List ℕ)) (items : List X) → filter_map (λ item. if_flavored (target item)) items ≡
+    filter has_comma (filter_map target items)
 filter-targets target [] = refl
 filter-targets target (item ∷ items) = by (target item) (filter-targets target items)
   where
@@ -18,12 +19,14 @@ filter-targets target (item ∷ items) = by (target item) (filter-targets target
     kept path false same = same
 
     by : (path : Option (List ℕ)) → filter_map (λ item. if_flavored (target item)) items ≡ filter has_comma (filter_map target items)
-        → cons_option (if_flavored path) (filter_map (λ item. if_flavored (target item)) items) ≡ filter has_comma (cons_option path (filter_map target items))
+        → cons_option (if_flavored path) (filter_map (λ item. if_flavored (target item)) items) ≡ filter has_comma
+            (cons_option path (filter_map target items))
     by None same = same
     by (Some path) same = kept path (has_comma path) same
 
 -- an item without a comma names none of them
-none_by : (wanted : Option WantedValue) → IfSome wanted (λ wanted. has_comma (port_path wanted.path) ≡ false) → if_flavored (target_in wanted) ≡ None
+none_by : (wanted : Option WantedValue) → IfSome wanted (λ wanted. has_comma (port_path wanted.path) ≡ false)
+    → if_flavored (target_in wanted) ≡ None
 none_by None plain = refl
 none_by (Some wanted) plain = ap (λ (b : Bool). if b then Some (port_path wanted.path) else None) plain
 

@@ -6,27 +6,32 @@ use Rattle.mk_paths.specs.World.{World}
 use Rattle.port_deps.specs.Edges.{edge_of}
 use Rattle.port_index.specs.PathOutcomes.{PathOutcome, outcome_at}
 use Rattle.port_index.specs.TreePaths.{named_in, named_at, listed_from}
-use Rattle.port_index.specs.Dependencies.{RootItemValue, root_state, root_with, root_at, roots_among, items_in, items_at, items_among, target_of, found_of, found_at, edge_at}
+use Rattle.port_index.specs.Dependencies.{RootItemValue, root_state, root_with, root_at, roots_among, items_in, items_at, items_among}
+use Rattle.port_index.specs.Dependencies.{target_of, found_of, found_at, edge_at}
 use Rattle.port_index.proofs.Filled.{AreKnown}
 use Rattle.port_index.specs.Seen.{known_in}
 
 module _ (world : World) (entries : List ℕ → Option PathOutcome) where
-  named-known : (paths : List (List ℕ)) → AreKnown world entries paths → flat_map (named_at (known_in entries)) paths ≡ flat_map (named_at (outcome_at world)) paths
+  named-known : (paths : List (List ℕ)) → AreKnown world entries paths → flat_map (named_at (known_in entries)) paths ≡ flat_map
+      (named_at (outcome_at world)) paths
   named-known [] known = refl
   named-known (path ∷ paths) known =
       ap (λ outcome. named_in path outcome ++ flat_map (named_at (known_in entries)) paths) known.0
       ∙ ap (λ more. named_at (outcome_at world) path ++ more) (named-known paths known.1)
 
-  pub listed-known : (paths : List (List ℕ)) → AreKnown world entries paths → listed_from (known_in entries) paths ≡ listed_from (outcome_at world) paths
+  pub listed-known : (paths : List (List ℕ)) → AreKnown world entries paths → listed_from (known_in entries) paths ≡ listed_from
+      (outcome_at world) paths
   listed-known paths known = ap (λ named. in_order (named ++ paths)) (named-known paths known)
 
-  pub items-known : (paths : List (List ℕ)) → AreKnown world entries paths → items_among (known_in entries) paths ≡ items_among (outcome_at world) paths
+  pub items-known : (paths : List (List ℕ)) → AreKnown world entries paths → items_among (known_in entries) paths ≡ items_among
+      (outcome_at world) paths
   items-known [] known = refl
   items-known (path ∷ paths) known =
       ap (λ outcome. items_in path outcome ++ items_among (known_in entries) paths) known.0
       ∙ ap (λ more. items_at (outcome_at world) path ++ more) (items-known paths known.1)
 
-  pub roots-known : (paths : List (List ℕ)) → AreKnown world entries paths → roots_among (known_in entries) paths ≡ roots_among (outcome_at world) paths
+  pub roots-known : (paths : List (List ℕ)) → AreKnown world entries paths → roots_among (known_in entries) paths ≡ roots_among
+      (outcome_at world) paths
   roots-known [] known = refl
   roots-known (path ∷ paths) known =
       ap (λ outcome. cons_option (root_with path (root_state outcome)) (roots_among (known_in entries) paths)) known.0

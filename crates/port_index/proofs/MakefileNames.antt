@@ -1,5 +1,6 @@
 -- The name of a makefile says in which directory below its tree it was found.
-use Rattle.std.proofs.Common.{◌≡◌, ◌∙◌, sym, ap, refl, ℕ, ◌<◌, Bool, true, false, cond, not, ◌&&◌, ◌||◌, ◌==◌, List, [], ◌∷◌, ◌++◌, length, drop, Option, Some, None, Result, Ok, Err, codes, append_assoc, arith}
+use Rattle.std.proofs.Common.{◌≡◌, ◌∙◌, sym, ap, refl, ℕ, ◌<◌, Bool, true, false, cond, not, ◌&&◌, ◌||◌, ◌==◌, List, [], ◌∷◌, ◌++◌, length}
+use Rattle.std.proofs.Common.{drop, Option, Some, None, Result, Ok, Err, codes, append_assoc, arith}
 use Rattle.std.proofs.lemmas.Bool.{and_parts, and_from, eqb-true}
 use Rattle.std.proofs.lemmas.Grind.{common_steps}
 use Rattle.std.proofs.lemmas.List.{append_cancel_right}
@@ -55,7 +56,8 @@ tests_of a b c p = grind (arith, common_steps)
 kept_one : (part : List ℕ) → is_no_dot part ≡ true → list_all may_occur part ≡ true → is_kept part ≡ true
 kept_one part a b = both (bytes_eq part []) (bytes_eq part (codes ".")) (bytes_eq part (codes "..")) (list_all may_occur part) a b
 
-kept_all : (parts : List (List ℕ)) → list_all is_no_dot parts ≡ true → are_between slash is_plain parts ≡ true → list_all is_kept parts ≡ true
+kept_all : (parts : List (List ℕ)) → list_all is_no_dot parts ≡ true → are_between slash is_plain parts ≡ true
+    → list_all is_kept parts ≡ true
 kept_all [] a b = refl
 kept_all (part ∷ parts) a b =
     let s = and_parts (is_no_dot part) (list_all is_no_dot parts) a in
@@ -74,12 +76,14 @@ ok_of : (test : Bool) (wanted name : List ℕ) → cond test (Ok wanted) (Err Ba
 ok_of true wanted name e = cc
 ok_of false wanted name e = cc
 
-resolved_by : (first plain : Bool) (parts : Option (List (List ℕ))) (name : List ℕ) → cond (first && plain) (name_of_parts parts) (Err BadName) ≡ Ok name
+resolved_by : (first plain : Bool) (parts : Option (List (List ℕ))) (name : List ℕ)
+    → cond (first && plain) (name_of_parts parts) (Err BadName) ≡ Ok name
     → (plain ≡ true) × ((kept : List (List ℕ)) → parts ≡ Some kept → name ≡ with_slashes kept)
 resolved_by false plain parts name e = absurd cc
 resolved_by true false parts name e = absurd cc
 resolved_by true true None name e = absurd cc
-resolved_by true true (Some kept) name e = (refl, λ other is. ok_of _ (with_slashes kept) name e ∙ ap (λ parts. with_slashes (elim parts as (λ _. List (List ℕ)) [ None ↦ [] | Some parts ↦ parts ])) is)
+resolved_by true true (Some kept) name e = (refl, λ other is. ok_of _ (with_slashes kept) name e
+    ∙ ap (λ parts. with_slashes (elim parts as (λ _. List (List ℕ)) [ None ↦ [] | Some parts ↦ parts ])) is)
 
 -- the last part of a makefile's name
 abbrev pub last : List ℕ
@@ -97,7 +101,8 @@ pub record IsNamedBy (stem : List (List ℕ)) (name : List ℕ) : Type 0 where
 
 -- so the name says which parts the directory has
 
-cut_joined : (part : List ℕ) (stem : List (List ℕ)) → are_between slash is_plain (parts_with part stem) ≡ true → parts_of_name (with_slashes (parts_with part stem)) ≡ [] ∷ parts_with part stem
+cut_joined : (part : List ℕ) (stem : List (List ℕ)) → are_between slash is_plain (parts_with part stem) ≡ true
+    → parts_of_name (with_slashes (parts_with part stem)) ≡ [] ∷ parts_with part stem
 cut_joined part stem between = written_is_cut_again slash is_plain [] (parts_with part stem) between
 
 pub one_stem : (stem other : List (List ℕ)) (name : List ℕ) → IsNamedBy stem name → IsNamedBy other name → stem ≡ other
@@ -137,7 +142,8 @@ module _ (part : List ℕ) (is : is_part part ≡ true) where
     abbrev text : List ℕ
     text = makefile_in (slash ∷ part) directory
 
-    parts : (list_all is_plain text ≡ true) × ((kept : List (List ℕ)) → kept_parts [] (parts_of_name text) ≡ Some kept → name ≡ with_slashes kept)
+    parts : (list_all is_plain text ≡ true) × ((kept : List (List ℕ)) → kept_parts [] (parts_of_name text) ≡ Some kept
+        → name ≡ with_slashes kept)
     parts = resolved_by true (list_all is_plain text) (kept_parts [] (parts_of_name text)) name e
 
     plain : are_between slash is_plain (parts_with part (parts_of_name directory)) ≡ true
@@ -148,10 +154,13 @@ module _ (part : List ℕ) (is : is_part part ≡ true) where
     unfolding kept_parts
     named_in dots =
         let whole : list_all is_no_dot (parts_with part (parts_of_name directory)) ≡ true =
-        and_from (is_no_dot part) (list_all is_no_dot (parts_of_name directory ++ last ∷ [])) no_dot (joined_dots (parts_of_name directory) dots) in
+        and_from (is_no_dot part) (list_all is_no_dot (parts_of_name directory ++ last ∷ [])) no_dot
+            (joined_dots (parts_of_name directory) dots) in
         record {
           part = part;
-          is = parts.1 (parts_with part (parts_of_name directory)) (ap (kept_parts []) (cut_name directory) ∙ kept_again [] (parts_with part (parts_of_name directory)) (kept_all (parts_with part (parts_of_name directory)) whole plain));
+          is = parts.1 (parts_with part (parts_of_name directory)) (ap (kept_parts []) (cut_name directory)
+              ∙ kept_again [] (parts_with part (parts_of_name directory))
+              (kept_all (parts_with part (parts_of_name directory)) whole plain));
           between = plain;
         }
       where
@@ -165,12 +174,16 @@ module _ (part : List ℕ) (is : is_part part ≡ true) where
     pub named_own : directory ≡ codes "." → IsNamedBy [] name
     unfolding kept_parts
     named_own own =
-        let cut : parts_of_name text ≡ [] ∷ part ∷ codes "." ∷ last ∷ [] = cut_name directory ∙ ap (λ d. [] ∷ parts_with part (parts_of_name d)) own in
-        let between : are_between slash is_plain (part ∷ codes "." ∷ last ∷ []) ≡ true = ap (are_between slash is_plain) (sym cut) ∙ parts_are_between slash is_plain text parts.0 in
+        let cut : parts_of_name text ≡ [] ∷ part ∷ codes "." ∷ last ∷ [] = cut_name directory
+            ∙ ap (λ d. [] ∷ parts_with part (parts_of_name d)) own in
+        let between : are_between slash is_plain (part ∷ codes "." ∷ last ∷ []) ≡ true = ap (are_between slash is_plain) (sym cut)
+            ∙ parts_are_between slash is_plain text parts.0 in
         record {
           part = part;
-          is = parts.1 (parts_with part []) (ap (kept_parts []) cut ∙ ap (option_and_then (λ next. kept_parts next (codes "." ∷ last ∷ []))) (with_first part no_dot));
-          between = and_from (list_all may_occur part) true ((and_parts (list_all may_occur part) (are_between slash is_plain (codes "." ∷ last ∷ [])) between).0) refl;
+          is = parts.1 (parts_with part []) (ap (kept_parts []) cut ∙ ap (option_and_then (λ next. kept_parts next (codes "." ∷ last ∷ [])))
+              (with_first part no_dot));
+          between = and_from (list_all may_occur part) true
+              ((and_parts (list_all may_occur part) (are_between slash is_plain (codes "." ∷ last ∷ [])) between).0) refl;
         }
 
 module _ (files : FileMap) (directory name : List ℕ) where
@@ -186,12 +199,15 @@ module _ (files : FileMap) (directory name : List ℕ) where
       let s = and_parts (first == slash) (is_part part) a in
       (part, s.1, ap (λ byte. resolved (makefile_in (byte ∷ part) directory)) (sym (eqb-true first slash s.0)) ∙ e)
 
-  first_found : (there : Bool) (n : List ℕ) (rest : Option (List ℕ)) → cond there (Some n) rest ≡ Some name → (n ≡ name → Found) → (rest ≡ Some name → Found) → Found
+  first_found : (there : Bool) (n : List ℕ) (rest : Option (List ℕ)) → cond there (Some n) rest ≡ Some name → (n ≡ name → Found)
+      → (rest ≡ Some name → Found) → Found
   first_found true n rest e here more = here cc
   first_found false n rest e here more = more e
 
-  found_by : (tree : List ℕ) (trees : List (List ℕ)) (r : Result (List ℕ) NameFault) → is_tree tree ≡ true → resolved (makefile_in tree directory) ≡ r
-      → find (contains_key files) (cons_option (result_ok r) (filter_map at trees)) ≡ Some name → (find (contains_key files) (filter_map at trees) ≡ Some name → Found) → Found
+  found_by : (tree : List ℕ) (trees : List (List ℕ)) (r : Result (List ℕ) NameFault) → is_tree tree ≡ true
+      → resolved (makefile_in tree directory) ≡ r
+      → find (contains_key files) (cons_option (result_ok r) (filter_map at trees)) ≡ Some name
+      → (find (contains_key files) (filter_map at trees) ≡ Some name → Found) → Found
   found_by tree trees (Err fault) a is e more = more e
   found_by tree trees (Ok n) a is e more = first_found (contains_key files n) n _ e (λ same. of_tree tree a (is ∙ ap Ok same)) more
 

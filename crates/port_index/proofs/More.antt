@@ -1,5 +1,6 @@
 -- One more item of a list that is read from the front.
-use Rattle.std.proofs.Common.{◌≡◌, ◌∙◌, ◌<◌, ◌+◌, sym, ap, refl, ℕ, List, [], ◌∷◌, ◌++◌, length, map, take, get_or, append_assoc, append-nil, Option, Some, None}
+use Rattle.std.proofs.Common.{◌≡◌, ◌∙◌, ◌<◌, ◌+◌, sym, ap, refl, ℕ, List, [], ◌∷◌, ◌++◌, length, map, take, get_or, append_assoc}
+use Rattle.std.proofs.Common.{append-nil, Option, Some, None}
 use Rattle.std.proofs.lemmas.List.{map-append, take_more}
 use Rattle.std.proofs.lemmas.Grind.{flat_map-append}
 use Rattle.std.proofs.lemmas.List.Elements.{filter_map-append}
@@ -15,14 +16,16 @@ one : {Y : Type 0} (found : Option Y) → cons_option found [] ≡ option_to_lis
 one None = refl
 one (Some y) = refl
 
-pub filter_map-more : {X Y Z : Type 0} (f : Y → Option Z) (view : X → Y) (items : List X) (i : ℕ) (item : X) → i < length items → item ≡ get_or items i item
+pub filter_map-more : {X Y Z : Type 0} (f : Y → Option Z) (view : X → Y) (items : List X) (i : ℕ) (item : X) → i < length items
+    → item ≡ get_or items i item
     → filter_map f (map view (take (i + 1) items)) ≡ filter_map f (map view (take i items)) ++ option_to_list (f (view item))
 filter_map-more f view items i item below is =
     ap (filter_map f) (map-more view items i item below is) ∙ filter_map-append f (map view (take i items)) (view item ∷ [])
     ∙ ap (λ more. filter_map f (map view (take i items)) ++ more) (one (f (view item)))
 
 -- a filter with one item more
-pub filter-next : {X Y Z : Type 0} (f : Y → Option Z) (view : X → Y) (items : List X) (i : ℕ) (item : X) (y : Y) (front now next : List Z) (found : Option Z) → i < length items → item ≡ get_or items i item
+pub filter-next : {X Y Z : Type 0} (f : Y → Option Z) (view : X → Y) (items : List X) (i : ℕ) (item : X) (y : Y) (front now next : List Z)
+    (found : Option Z) → i < length items → item ≡ get_or items i item
     → y ≡ view item → now ≡ front ++ filter_map f (map view (take i items)) → found ≡ f y → next ≡ now ++ option_to_list found
     → next ≡ front ++ filter_map f (map view (take (i + 1) items))
 filter-next f view items i item y front now next found below is same so_far here step =
@@ -32,7 +35,8 @@ filter-next f view items i item y front now next found below is same so_far here
     ∙ ap (λ n. front ++ n) (sym (filter_map-more f view items i item below is))
 
 -- what a list of lists has with one item more
-pub flat_map-more : {X Y Z : Type 0} (f : Y → List Z) (view : X → Y) (items : List X) (i : ℕ) (item : X) → i < length items → item ≡ get_or items i item
+pub flat_map-more : {X Y Z : Type 0} (f : Y → List Z) (view : X → Y) (items : List X) (i : ℕ) (item : X) → i < length items
+    → item ≡ get_or items i item
     → flat_map f (map view (take (i + 1) items)) ≡ flat_map f (map view (take i items)) ++ f (view item)
 flat_map-more f view items i item below is =
     ap (flat_map f) (map-more view items i item below is) ∙ flat_map-append f (map view (take i items)) (view item ∷ [])

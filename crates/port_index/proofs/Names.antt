@@ -1,12 +1,14 @@
 -- What follows a slash, and what is left without an end, in the words of std.
-use Rattle.std.proofs.Common.{◌≡◌, ◌≢◌, ◌∙◌, ◌<◌, ◌-◌, suc, sym, ap, refl, ℕ, ◌+◌, Bool, true, false, cond, not, eqb, ltb, ◌||◌, List, [], ◌∷◌, ◌++◌, length, take, Some, None, arith}
+use Rattle.std.proofs.Common.{◌≡◌, ◌≢◌, ◌∙◌, ◌<◌, ◌-◌, suc, sym, ap, refl, ℕ, ◌+◌, Bool, true, false, cond, not, eqb, ltb, ◌||◌, List, []}
+use Rattle.std.proofs.Common.{◌∷◌, ◌++◌, length, take, Some, None, arith}
 use Rattle.std.proofs.lemmas.Bool.{cond-true, cond-false}
 use Rattle.std.proofs.lemmas.Bool.Decides.{nat_tests}
 use Rattle.std.proofs.lemmas.Str.Pattern.{ends_text}
 use Rattle.std.specs.List.{list_any, ends_with, position_or_len, after_first}
 use Rattle.port_index.specs.TreePaths.{is_slash, after_slash, without_suffix}
 
-any_step : (passes rest : Bool) (place size : ℕ) → rest ≡ ltb place size → (passes || rest) ≡ ltb (cond (not passes) (1 + place) 0) (suc size)
+any_step : (passes rest : Bool) (place size : ℕ) → rest ≡ ltb place size
+    → (passes || rest) ≡ ltb (cond (not passes) (1 + place) 0) (suc size)
 any_step true rest place size is = grind (arith, nat_tests)
 any_step false rest place size is = is ∙ grind (arith, nat_tests)
 
@@ -20,7 +22,8 @@ after_slash-none text at =
     let outside : ltb (position_or_len is_slash text) (length text) ≡ false = grind (arith, nat_tests) in
     sym (cond-false (list_any is_slash text) (Some (after_first is_slash text)) None (any_at is_slash text ∙ outside))
 
-pub after_slash-some : (text after : List ℕ) → position_or_len is_slash text < length text → after ≡ after_first is_slash text → Some after ≡ after_slash text
+pub after_slash-some : (text after : List ℕ) → position_or_len is_slash text < length text → after ≡ after_first is_slash text
+    → Some after ≡ after_slash text
 after_slash-some text after at is =
     let inside : ltb (position_or_len is_slash text) (length text) ≡ true = grind (arith, nat_tests) in
     ap Some is ∙ sym (cond-true (list_any is_slash text) (Some (after_first is_slash text)) None (any_at is_slash text ∙ inside))

@@ -1,5 +1,6 @@
 -- What becomes of pairs as the paths of one name change.
-use Rattle.std.proofs.Common.{◌≡◌, ◌∙◌, ap, sym, refl, ℕ, Bool, true, false, cond, ◌&&◌, ◌||◌, List, [], ◌∷◌, map, string_bytes, Option, Some, None, String, Global}
+use Rattle.std.proofs.Common.{◌≡◌, ◌∙◌, ap, sym, refl, ℕ, Bool, true, false, cond, ◌&&◌, ◌||◌, List, [], ◌∷◌, map, string_bytes, Option}
+use Rattle.std.proofs.Common.{Some, None, String, Global}
 use Rattle.std.proofs.lemmas.Bool.{false≢true}
 use Rattle.std.proofs.lemmas.Map.Text.{is_eq-slice_cmp}
 use Rattle.std.proofs.lemmas.Slice.Eq.{bytes_eq-Decides}
@@ -86,7 +87,8 @@ module _ (key : List ℕ) (row : KnownRow) (old new : List ℕ → Option KnownR
       ap (is name) (sym ((bytes_eq-Decides key path).0 e))
       ∙ noted name (sym (ap (λ found. asks_in found name) (put path ∙ ap (λ b. cond b (Some row) (old path)) e)) ∙ asks)
   put_by name path false e asks =
-      stays name path (before name path (sym (ap (λ found. asks_in found name) (put path ∙ ap (λ b. cond b (Some row) (old path)) e)) ∙ asks))
+      stays name path (before name path (sym (ap (λ found. asks_in found name) (put path ∙ ap (λ b. cond b (Some row) (old path)) e))
+          ∙ asks))
 
   pub put-noted : (name path : List ℕ) → asks_in (new path) name ≡ true → is name path ≡ true
   put-noted name path asks = put_by name path (bytes_eq key path) refl asks
@@ -168,7 +170,8 @@ none_asks [] = refl
 none_asks (name ∷ names) = none_asks names
 
 tied : (names : BTreeSet (String Global)) (text : String Global)
-    → list_any (λ (name : String Global). bytes_eq (string_bytes text) (string_bytes name)) (keys names) ≡ contains_text names (string_bytes text)
+    → list_any (λ (name : String Global). bytes_eq (string_bytes text) (string_bytes name)) (keys names) ≡ contains_text
+        names (string_bytes text)
 tied names text =
     ap (λ (p : String Global → Bool). list_any p (keys names))
     (λ i (name : String Global). sym (is_eq-slice_cmp (string_bytes text) (string_bytes name)) i)
@@ -185,7 +188,8 @@ tie : (path : List ℕ) → ◌≡◌ {A = List ℕ → Bool} (λ one. is_eq (sl
 tie path i one = (is_eq-slice_cmp path one ∙ nat_list_eq_equiv.symm path one) i
 
 -- a text is in a set if it is one of its keys
-pub contains-key : (texts : BTreeSet (String Global)) (path : List ℕ) → is_one_of path (map string_bytes (keys texts)) ≡ contains_text texts path
+pub contains-key : (texts : BTreeSet (String Global)) (path : List ℕ) → is_one_of path (map string_bytes (keys texts)) ≡
+    contains_text texts path
 contains-key texts path =
     ap (λ (p : List ℕ → Bool). list_any p (map string_bytes (keys texts))) (sym (tie path))
     ∙ list_any-map (λ one. is_eq (slice_cmp nat_cmp path one)) string_bytes (keys texts)

@@ -1,5 +1,6 @@
 -- The root at one path, and the dependencies of the port there.
-use Rattle.std.proofs.Common.{◌≡◌, ◌∙◌, ap, sym, refl, subst, ℕ, Bool, true, false, ◌||◌, List, [], ◌∷◌, ◌++◌, append-nil, if◌then◌else◌, filter, map, Option, Some, None, Result}
+use Rattle.std.proofs.Common.{◌≡◌, ◌∙◌, ap, sym, refl, subst, ℕ, Bool, true, false, ◌||◌, List, [], ◌∷◌, ◌++◌, append-nil, if◌then◌else◌}
+use Rattle.std.proofs.Common.{filter, map, Option, Some, None, Result}
 use Rattle.std.proofs.lemmas.Cmp.{tied_itself, nat_list_cmp_total}
 use Rattle.std.proofs.lemmas.List.{map-append}
 use Rattle.std.proofs.lemmas.Slice.Eq.{bytes_eq-Decides}
@@ -13,7 +14,8 @@ use Rattle.mk_base.specs.FaultAt.{FaultAt}
 use Rattle.port_rules.specs.Ports.{PortValue}
 use Rattle.port_deps.specs.Items.{ItemValue, item_of}
 use Rattle.port_deps.specs.Roots.{RootValue, RootEdgeValue}
-use Rattle.port_index.specs.Dependencies.{edge_at, edges_among, edges_from, item_at, items_at, items_among, items_in, root_among, root_at, root_with, roots_among, root_state}
+use Rattle.port_index.specs.Dependencies.{edge_at, edges_among, edges_from, item_at, items_at, items_among, items_in, root_among, root_at}
+use Rattle.port_index.specs.Dependencies.{root_with, roots_among, root_state}
 use Rattle.port_index.specs.FilledRows.{is_one_of}
 use Rattle.port_index.specs.TreePaths.{AreInOrder}
 use Rattle.port_index.specs.PathOutcomes.{PathOutcome, Absent, Faulty, Port, BadPort, Lists, BadList, FlavoredList, Other}
@@ -31,20 +33,23 @@ module _ (outcomes : List ℕ → PathOutcome) (path : List ℕ) where
   -- (by the state of the root at the first path)
   root_by : (one : List ℕ) (paths : List (List ℕ)) (outcome : PathOutcome) (same : Bool) → outcomes one ≡ outcome → bytes_eq one path ≡ same
       → find is_at (roots_among outcomes paths) ≡ (if is_one_of path paths then root_at outcomes path else None)
-      → find is_at (cons_option (root_with one (root_state outcome)) (roots_among outcomes paths)) ≡ (if (same || is_one_of path paths) then root_at outcomes path else None)
+      → find is_at (cons_option (root_with one (root_state outcome)) (roots_among outcomes paths)) ≡
+          (if (same || is_one_of path paths) then root_at outcomes path else None)
   root_by one paths outcome same is e rest = by (root_state outcome) refl same e
     where
       at_path : bytes_eq one path ≡ true → root_at outcomes path ≡ root_with one (root_state outcome)
       at_path same = ap (root_at outcomes) (sym ((bytes_eq-Decides one path).0 same)) ∙ ap (λ found. root_with one (root_state found)) is
 
       by : (state : Option (Result PortValue FaultAt)) → root_state outcome ≡ state → (same : Bool) → bytes_eq one path ≡ same
-          → find is_at (cons_option (root_with one state) (roots_among outcomes paths)) ≡ (if (same || is_one_of path paths) then root_at outcomes path else None)
+          → find is_at (cons_option (root_with one state) (roots_among outcomes paths)) ≡
+              (if (same || is_one_of path paths) then root_at outcomes path else None)
       by None none true e =
           let absent : root_at outcomes path ≡ None = at_path e ∙ ap (root_with one) none in
           rest ∙ ap (λ root. if is_one_of path paths then root else None) absent ∙ either (is_one_of path paths) ∙ sym absent
       by None none false e = rest
       by (Some state) some true e =
-          ap (λ (b : Bool). if b then root_with one (Some state) else find is_at (roots_among outcomes paths)) e ∙ sym (at_path e ∙ ap (root_with one) some)
+          ap (λ (b : Bool). if b then root_with one (Some state) else find is_at (roots_among outcomes paths)) e
+              ∙ sym (at_path e ∙ ap (root_with one) some)
       by (Some state) some false e =
           ap (λ (b : Bool). if b then root_with one (Some state) else find is_at (roots_among outcomes paths)) e ∙ rest
 
@@ -88,7 +93,8 @@ module _ (outcomes : List ℕ → PathOutcome) (path : List ℕ) where
   edges_of_row one same e Other more = nothing same (filter is_from more)
 
   edges_then : (one : List ℕ) (paths : List (List ℕ)) (same : Bool) → bytes_eq one path ≡ same
-      → edges_from outcomes (one ∷ paths) path ≡ (if same then map (edge_at outcomes) (items_at outcomes one) else []) ++ edges_from outcomes paths path
+      → edges_from outcomes (one ∷ paths) path ≡ (if same then map (edge_at outcomes) (items_at outcomes one) else []) ++
+          edges_from outcomes paths path
   edges_then one paths same e =
       ap (filter is_from) (map-append (edge_at outcomes) (items_at outcomes one) (items_among outcomes paths))
       ∙ edges_of_row one same e (outcomes one) (edges_among outcomes paths)
@@ -103,13 +109,15 @@ module _ (outcomes : List ℕ → PathOutcome) (path : List ℕ) where
   none_later [] above = refl
   none_later (one ∷ paths) above =
       edges_then one paths (bytes_eq one path) refl
-      ∙ ap (λ (b : Bool). (if b then map (edge_at outcomes) (items_at outcomes one) else []) ++ edges_from outcomes paths path) (later_by one (bytes_eq one path) refl above.0)
+      ∙ ap (λ (b : Bool). (if b then map (edge_at outcomes) (items_at outcomes one) else []) ++ edges_from outcomes paths path)
+          (later_by one (bytes_eq one path) refl above.0)
       ∙ none_later paths above.1
 
   abbrev own_edges : List RootEdgeValue
   own_edges = map (edge_at outcomes) (items_at outcomes path)
 
-  edges_by : (one : List ℕ) (paths : List (List ℕ)) (same : Bool) → bytes_eq one path ≡ same → AllByRecursion (λ other. by_bytes one other ≡ Less) paths
+  edges_by : (one : List ℕ) (paths : List (List ℕ)) (same : Bool) → bytes_eq one path ≡ same
+      → AllByRecursion (λ other. by_bytes one other ≡ Less) paths
       → edges_from outcomes paths path ≡ (if is_one_of path paths then own_edges else [])
       → edges_from outcomes (one ∷ paths) path ≡ (if (same || is_one_of path paths) then own_edges else [])
   edges_by one paths true e above rest =
@@ -120,11 +128,13 @@ module _ (outcomes : List ℕ → PathOutcome) (path : List ℕ) where
       ∙ append-nil own_edges
   edges_by one paths false e above rest = edges_then one paths false e ∙ rest
 
-  sorted_edges : (paths : List (List ℕ)) → IsStrictlySortedBy by_bytes paths → edges_from outcomes paths path ≡ (if is_one_of path paths then own_edges else [])
+  sorted_edges : (paths : List (List ℕ)) → IsStrictlySortedBy by_bytes paths
+      → edges_from outcomes paths path ≡ (if is_one_of path paths then own_edges else [])
   unfolding IsStrictlySortedBy
   sorted_edges [] sorted = refl
   sorted_edges (one ∷ paths) sorted = edges_by one paths (bytes_eq one path) refl sorted.0 (sorted_edges paths sorted.1)
 
   -- they are those of the path itself, if this is one of these paths, which are in order
-  pub edges-one : (paths : List (List ℕ)) → AreInOrder paths → edges_from outcomes paths path ≡ (if is_one_of path paths then own_edges else [])
+  pub edges-one : (paths : List (List ℕ)) → AreInOrder paths
+      → edges_from outcomes paths path ≡ (if is_one_of path paths then own_edges else [])
   edges-one paths ordered = sorted_edges paths (subst (IsStrictlySortedBy by_bytes) ordered (in_order-sorted paths))

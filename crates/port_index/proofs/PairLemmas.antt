@@ -1,5 +1,6 @@
 -- How many makefiles are evaluated for paths, and what the listed ones cost.
-use Rattle.std.proofs.Common.{◌≡◌, ◌∙◌, sym, ap, ap₂, refl, ℕ, ◌+◌, Bool, true, false, if◌then◌else◌, List, [], ◌∷◌, ◌++◌, length, Option, Some, None, is_some, Result, Ok, Err, arith}
+use Rattle.std.proofs.Common.{◌≡◌, ◌∙◌, sym, ap, ap₂, refl, ℕ, ◌+◌, Bool, true, false, if◌then◌else◌, List, [], ◌∷◌, ◌++◌, length, Option}
+use Rattle.std.proofs.Common.{Some, None, is_some, Result, Ok, Err, arith}
 use Rattle.std.proofs.lemmas.List.Sums.{sum_by-cons}
 use Rattle.std.specs.List.{sum_by, filter_map, flat_map, cons_option}
 use Rattle.std.specs.Str.{bytes_eq}
@@ -16,7 +17,8 @@ use Rattle.pkg_path.specs.Paths.{PathValue, path_if_one}
 use Rattle.port_rules.specs.Records.{record_of}
 use Rattle.port_rules.specs.declared.records.Recorded.{Recorded}
 use Rattle.std.specs.Prelude.{codes, option_map, option_and_then}
-use Rattle.port_index.specs.PathOutcomes.{port_finding, list_finding, list_after, finding_by, finding_of_evaluation, finding_of, finding_in, finding_named, finding_at, cost_at, own_directory}
+use Rattle.port_index.specs.PathOutcomes.{port_finding, list_finding, list_after, finding_by, finding_of_evaluation, finding_of, finding_in}
+use Rattle.port_index.specs.PathOutcomes.{finding_named, finding_at, cost_at, own_directory}
 use Rattle.port_index.specs.Efforts.{is_there, evaluations_for, evaluations_at}
 use Rattle.port_index.specs.Index.{listed_paths}
 use Rattle.port_index.specs.TreePaths.{directories, named_at}
@@ -34,16 +36,19 @@ list_there : (spent : ℕ) (value : Result (Option Expanded) Failed) → is_ther
 list_there spent (Ok value) = refl
 list_there spent (Err failed) = refl
 
-after_there : (makefile : List ℕ) (flavors : Option (List (List ℕ))) (evaluated : Evaluated) → is_there (list_after makefile flavors evaluated).outcome ≡ true
+after_there : (makefile : List ℕ) (flavors : Option (List (List ℕ))) (evaluated : Evaluated)
+    → is_there (list_after makefile flavors evaluated).outcome ≡ true
 after_there makefile (Some flavors) evaluated = refl
 after_there makefile None evaluated = list_there evaluated.cost (value_of_variable evaluated.env makefile (codes "SUBDIR"))
 
-kind_there : (makefile : List ℕ) (flavors : Option (List (List ℕ))) (evaluated : Evaluated) (kind : Kind) → is_there (finding_by makefile flavors evaluated kind).outcome ≡ true
+kind_there : (makefile : List ℕ) (flavors : Option (List (List ℕ))) (evaluated : Evaluated) (kind : Kind)
+    → is_there (finding_by makefile flavors evaluated kind).outcome ≡ true
 kind_there makefile flavors evaluated kinds.Port = port_there evaluated.cost (record_of evaluated.env makefile)
 kind_there makefile flavors evaluated kinds.List = after_there makefile flavors evaluated
 kind_there makefile flavors evaluated kinds.Other = refl
 
-pub evaluation_there : (makefile : List ℕ) (flavors : Option (List (List ℕ))) (end : Result Evaluated Failed) → is_there (finding_of_evaluation makefile flavors end).outcome ≡ true
+pub evaluation_there : (makefile : List ℕ) (flavors : Option (List (List ℕ))) (end : Result Evaluated Failed)
+    → is_there (finding_of_evaluation makefile flavors end).outcome ≡ true
 evaluation_there makefile flavors (Ok evaluated) = kind_there makefile flavors evaluated evaluated.kind
 evaluation_there makefile flavors (Err failed) = refl
 
@@ -53,11 +58,14 @@ one_if found = if is_some found then 1 else 0
 
 module _ (world : World) where
   place_counts : (flavors : Option (List (List ℕ))) (makefile : Option (List ℕ))
-      → evaluations_for (finding_of world flavors makefile).outcome ≡ one_if (option_map (λ makefile. let pair : Pair = record { makefile = makefile; flavors = flavors } in pair) makefile)
-  place_counts flavors (Some makefile) = ap (λ (b : Bool). if b then 1 else 0) (evaluation_there makefile flavors (means world makefile flavors))
+      → evaluations_for (finding_of world flavors makefile).outcome ≡ one_if
+          (option_map (λ makefile. let pair : Pair = record { makefile = makefile; flavors = flavors } in pair) makefile)
+  place_counts flavors (Some makefile) = ap (λ (b : Bool). if b then 1 else 0)
+      (evaluation_there makefile flavors (means world makefile flavors))
   place_counts flavors None = refl
 
-  path_counts : (path : Option PathValue) → evaluations_for (finding_named world path).outcome ≡ one_if (option_and_then (pair_named world) path)
+  path_counts : (path : Option PathValue) → evaluations_for (finding_named world path).outcome ≡ one_if
+      (option_and_then (pair_named world) path)
   path_counts (Some path) = place_counts path.flavors (place world path.directory)
   path_counts None = refl
 

@@ -1,5 +1,7 @@
 -- The ports that pass a test, found by the rows that there are.
-use Rattle.std.proofs.Common.{◌≡◌, ◌∙◌, ap, sym, refl, subst, ℕ, Bool, true, false, cond, ◌||◌, List, [], ◌∷◌, ◌++◌, append_assoc, append-nil, if◌then◌else◌, Ok, filter, map, Option, Some, None, is_some, option_map, String, Global, string_bytes}
+use Rattle.std.proofs.Common.{◌≡◌, ◌∙◌, ap, sym, refl, subst, ℕ, Bool, true, false, cond, ◌||◌, List, [], ◌∷◌, ◌++◌, append_assoc}
+use Rattle.std.proofs.Common.{append-nil, if◌then◌else◌, Ok, filter, map, Option, Some, None, is_some, option_map, String, Global}
+use Rattle.std.proofs.Common.{string_bytes}
 use Rattle.std.proofs.lemmas.Bool.{false≢true}
 use Rattle.std.proofs.lemmas.Cmp.{nat_list_eq_equiv}
 use Rattle.std.proofs.lemmas.Map.Entries.{option_filter}
@@ -35,12 +37,14 @@ each_of : {X : Type 0} (P : X → Type 0) (xs : List X) → All P xs → AllByRe
 each_of P [] all = tt
 each_of P (x ∷ xs) all = All-from_get_or P (x ∷ xs) x (λ place inside. all place x inside)
 
-above_texts : (key : String Global) (entries : List Entry) → AllByRecursion (λ other. string_cmp key other ≡ Less) (map (λ (entry : Entry). entry.0) entries)
+above_texts : (key : String Global) (entries : List Entry) → AllByRecursion (λ other. string_cmp key other ≡ Less)
+    (map (λ (entry : Entry). entry.0) entries)
     → AllByRecursion (λ other. by_bytes (string_bytes key) other ≡ Less) (map key_of entries)
 above_texts key [] all = tt
 above_texts key (entry ∷ entries) all = (all.0, above_texts key entries all.1)
 
-texts_rise : (entries : List Entry) → IsStrictlySortedBy string_cmp (map (λ (entry : Entry). entry.0) entries) → IsStrictlySortedBy by_bytes (map key_of entries)
+texts_rise : (entries : List Entry) → IsStrictlySortedBy string_cmp (map (λ (entry : Entry). entry.0) entries)
+    → IsStrictlySortedBy by_bytes (map key_of entries)
 unfolding IsStrictlySortedBy
 texts_rise [] sorted = tt
 texts_rise (entry ∷ entries) sorted = (above_texts entry.0 entries sorted.0, texts_rise entries sorted.1)
@@ -77,7 +81,8 @@ module _ (test : PortValue → Bool) (listed : List (List ℕ)) where
       → found ++ chosen (entry ∷ rest) ≡ all → found ++ chosen rest ≡ all
   passed-on found entry rest all none before = sym (ap (λ one. found ++ cons_option one (chosen rest)) none) ∙ before
 
-  pub taken-on : (found : List RootValue) (entry : Entry) (rest : List Entry) (all : List RootValue) (root : RootValue) → chosen_at entry ≡ Some root
+  pub taken-on : (found : List RootValue) (entry : Entry) (rest : List Entry) (all : List RootValue) (root : RootValue)
+      → chosen_at entry ≡ Some root
       → found ++ chosen (entry ∷ rest) ≡ all → (found ++ root ∷ []) ++ chosen rest ≡ all
   taken-on found entry rest all root some before =
       append_assoc found (root ∷ []) (chosen rest) ∙ sym (ap (λ one. found ++ cons_option one (chosen rest)) some) ∙ before
@@ -104,13 +109,16 @@ module _ (test : PortValue → Bool) (listed : List (List ℕ)) where
       ∙ ap (port_at (key_of entry)) row ∙ ap (λ b. cond b (Some (root_of entry port)) None) tested) before
   port_by found entry rest all port false is row tested before =
       ap (λ one. one ++ chosen rest) (append-nil found)
-      ∙ passed-on found entry rest all (ap (λ b. cond b (port_at (key_of entry) (row_seen entry.1.row)) None) (sym (same_among (key_of entry)) ∙ is)) before
+      ∙ passed-on found entry rest all (ap (λ b. cond b (port_at (key_of entry) (row_seen entry.1.row)) None)
+          (sym (same_among (key_of entry)) ∙ is)) before
 
   -- the row of a port that passes
   pub port-on : (found : List RootValue) (entry : Entry) (rest : List Entry) (all : List RootValue) (port : PortValue)
       → row_seen entry.1.row ≡ Port port → test port ≡ true → found ++ chosen (entry ∷ rest) ≡ all
-      → (found ++ (if is_one_of (key_of entry) listed then record { path = key_of entry; state = Ok port } ∷ [] else [])) ++ chosen rest ≡ all
-  port-on found entry rest all port row tested before = port_by found entry rest all port (is_one_of (key_of entry) listed) refl row tested before
+      → (found ++ (if is_one_of (key_of entry) listed then record { path = key_of entry; state = Ok port } ∷ [] else [])) ++ chosen rest ≡
+          all
+  port-on found entry rest all port row tested before = port_by found entry rest all port
+      (is_one_of (key_of entry) listed) refl row tested before
 
   none_either : (b : Bool) → cond b (no_root_at) None ≡ None
   none_either true = refl
@@ -121,7 +129,8 @@ module _ (test : PortValue → Bool) (listed : List (List ℕ)) where
       → row_seen entry.1.row ≡ Port port → test port ≡ false → found ++ chosen (entry ∷ rest) ≡ all → found ++ chosen rest ≡ all
   other-on found entry rest all port row tested before =
       passed-on found entry rest all
-      (ap (λ one. cond (among (key_of entry) listed) one None) (ap (port_at (key_of entry)) row ∙ ap (λ b. cond b (Some (root_of entry port)) None) tested)
+      (ap (λ one. cond (among (key_of entry) listed) one None) (ap (port_at (key_of entry)) row
+          ∙ ap (λ b. cond b (Some (root_of entry port)) None) tested)
       ∙ none_either (among (key_of entry) listed)) before
 
   module _ (rows : List ℕ → Option KnownRow) where
@@ -136,30 +145,38 @@ module _ (test : PortValue → Bool) (listed : List (List ℕ)) where
     by_entries [] all = refl
     by_entries (entry ∷ entries) all =
         ap (λ (row : Option KnownRow). cons_option (cond (among (key_of entry) listed)
-        (port_at (key_of entry) (known_row (option_map (λ (said : Said). said.outcome) (option_map known_seen row)))) None) (chosen entries)) (sym all.0)
+        (port_at (key_of entry) (known_row (option_map (λ (said : Said). said.outcome) (option_map known_seen row)))) None)
+            (chosen entries)) (sym all.0)
         ∙ ap (cons_option (listed_root root listed (key_of entry))) (by_entries entries all.1)
 
     no_root : (path : List ℕ) (row : Option KnownRow) → rows path ≡ row → is_some row ≡ false → is_some (root path) ≡ true → ⊥
     no_root path None is none there =
-        false≢true (ap (λ (found : Option KnownRow). is_some (port_at path (known_row (option_map (λ (said : Said). said.outcome) (option_map known_seen found))))) (sym is) ∙ there)
+        false≢true (ap (λ (found : Option KnownRow). is_some
+            (port_at path (known_row (option_map (λ (said : Said). said.outcome) (option_map known_seen found))))) (sym is) ∙ there)
     no_root path (Some row) is none there = false≢true (sym none)
 
-    found_by : (path : List ℕ) (key : String Global) (row : KnownRow) (entries : List Entry) (same : Bool) → is_eq (slice_cmp nat_cmp path (string_bytes key)) ≡ same
-        → is_some (cond same (Some row) (lookup (is_at (λ (one : String Global). slice_cmp nat_cmp path (string_bytes one))) entries)) ≡ true
-        → (is_some (lookup (is_at (λ (one : String Global). slice_cmp nat_cmp path (string_bytes one))) entries) ≡ true → among path (map key_of entries) ≡ true)
+    found_by : (path : List ℕ) (key : String Global) (row : KnownRow) (entries : List Entry) (same : Bool)
+        → is_eq (slice_cmp nat_cmp path (string_bytes key)) ≡ same
+        → is_some (cond same (Some row) (lookup (is_at (λ (one : String Global). slice_cmp nat_cmp path (string_bytes one))) entries)) ≡
+            true
+        → (is_some (lookup (is_at (λ (one : String Global). slice_cmp nat_cmp path (string_bytes one))) entries) ≡ true
+            → among path (map key_of entries) ≡ true)
         → (is_eq (slice_cmp nat_cmp path (string_bytes key)) || among path (map key_of entries)) ≡ true
     found_by path key row entries true e found rest = ap (λ b. b || among path (map key_of entries)) e
     found_by path key row entries false e found rest = ap (λ b. b || among path (map key_of entries)) e ∙ rest found
 
     -- the path of a row that is found is one of the entries'
-    found_among : (path : List ℕ) (entries : List Entry) → is_some (lookup (is_at (λ (one : String Global). slice_cmp nat_cmp path (string_bytes one))) entries) ≡ true
+    found_among : (path : List ℕ) (entries : List Entry)
+        → is_some (lookup (is_at (λ (one : String Global). slice_cmp nat_cmp path (string_bytes one))) entries) ≡ true
         → among path (map key_of entries) ≡ true
     found_among path [] found = absurd (false≢true found)
     found_among path ((key, row) ∷ entries) found =
         found_by path key row entries (is_eq (slice_cmp nat_cmp path (string_bytes key))) refl found (found_among path entries)
 
-    module _ (entries : List Entry) (looks : (path : List ℕ) → rows path ≡ lookup (is_at (λ (one : String Global). slice_cmp nat_cmp path (string_bytes one))) entries) where
-      there_by : (path : List ℕ) (row : Option KnownRow) → rows path ≡ row → is_some (root path) ≡ true → among path (map key_of entries) ≡ true
+    module _ (entries : List Entry) (looks : (path : List ℕ)
+        → rows path ≡ lookup (is_at (λ (one : String Global). slice_cmp nat_cmp path (string_bytes one))) entries) where
+      there_by : (path : List ℕ) (row : Option KnownRow) → rows path ≡ row → is_some (root path) ≡ true
+          → among path (map key_of entries) ≡ true
       there_by path None is there = absurd (no_root path None is refl there)
       there_by path (Some row) is there = found_among path entries (ap is_some (sym (looks path) ∙ is))
 

@@ -1,5 +1,6 @@
 -- What follows from the rows of paths, and what one row more saves.
-use Rattle.std.proofs.Common.{◌≡◌, ◌∙◌, sym, ap, subst, refl, ℕ, ◌+◌, Bool, true, false, ◌||◌, if◌then◌else◌, List, [], ◌∷◌, ◌++◌, map, Option, is_none, arith}
+use Rattle.std.proofs.Common.{◌≡◌, ◌∙◌, sym, ap, subst, refl, ℕ, ◌+◌, Bool, true, false, ◌||◌, if◌then◌else◌, List, [], ◌∷◌, ◌++◌, map}
+use Rattle.std.proofs.Common.{Option, is_none, arith}
 use Rattle.std.proofs.lemmas.Bool.{or_right}
 use Rattle.std.proofs.lemmas.Slice.Eq.{bytes_eq-Decides}
 use Rattle.std.specs.List.{filter_map, sum_by}
@@ -27,7 +28,8 @@ module _ (world : World) (entries : List ℕ → Option PathOutcome) (have : Say
   targets_have : AreKnown world entries (filter_map target_of (items_among (outcome_at world) (listed_paths world)))
   targets_have = known-of world (filter_map target_of (items_among (outcome_at world) (listed_paths world))) entries (λ path is. have path
       (one_of-in_order path (listed_paths world) (filter_map target_of (items_among (outcome_at world) (listed_paths world)))
-      ∙ or_right (is_one_of path (listed_paths world)) (is_one_of path (filter_map target_of (items_among (outcome_at world) (listed_paths world)))) is))
+      ∙ or_right (is_one_of path (listed_paths world))
+          (is_one_of path (filter_map target_of (items_among (outcome_at world) (listed_paths world)))) is))
 
   roots_are : roots_among (known_in entries) (listed_paths world) ≡ roots world
   roots_are = roots-known world entries (listed_paths world) listed_have
@@ -39,7 +41,8 @@ module _ (world : World) (entries : List ℕ → Option PathOutcome) (have : Say
 
 pub known_rows : KnownRowsAreEnough
 known_rows = record {
-  listed = λ world entries have. listed-known world entries (directories (files_in world)) (known-of world (directories (files_in world)) entries have);
+  listed = λ world entries have. listed-known world entries (directories (files_in world))
+      (known-of world (directories (files_in world)) entries have);
   needed = λ world entries have.
       ap (λ items. in_order (listed_paths world ++ filter_map target_of items))
       (items-known world entries (listed_paths world) (known-of world (listed_paths world) entries have));
@@ -50,14 +53,16 @@ known_rows = record {
 alone : (n : ℕ) → 0 + n ≡ n
 alone n = omega arith
 
-one_of_these : (path : List ℕ) (paths : List (List ℕ)) → is_one_of path paths ≡ true → (other : List ℕ) (same : Bool) → bytes_eq path other ≡ same
+one_of_these : (path : List ℕ) (paths : List (List ℕ)) → is_one_of path paths ≡ true → (other : List ℕ) (same : Bool)
+    → bytes_eq path other ≡ same
     → (same || is_one_of other paths) ≡ is_one_of other paths
 one_of_these path paths is other true same = sym (subst (λ at. is_one_of at paths ≡ true) ((bytes_eq-Decides path other).0 same) is)
 one_of_these path paths is other false same = refl
 
 pub one_row_more : OneRowMoreLeavesLess
 one_row_more world weight paths path old new is none fills =
-    ap (λ n. n + sum_by weight (lacking new paths)) (sym (ap (sum_by weight) (ap (λ row. if is_none row then path ∷ [] else []) none) ∙ alone (weight path)))
+    ap (λ n. n + sum_by weight (lacking new paths))
+        (sym (ap (sum_by weight) (ap (λ row. if is_none row then path ∷ [] else []) none) ∙ alone (weight path)))
     ∙ sum-on world weight (path ∷ []) paths old new fills
     ∙ ap (sum_by weight) (lacking-same old (path ∷ paths) paths
     (in_order-same (path ∷ paths) paths (λ other. one_of_these path paths is other (bytes_eq path other) refl)))

@@ -82,6 +82,7 @@ module _ {R : Type 0} (root : List ℕ → Option R) where
           → filter_map listed_root keys ≡ filter_map root listed
       by_keys ordered sorted =
           met keys
-          ∙ ap (filter_map root) (same_in_order (filter both keys) (filter shown listed) (IsStrictlySortedBy-filter by_bytes both keys sorted)
+          ∙ ap (filter_map root) (same_in_order (filter both keys) (filter shown listed)
+              (IsStrictlySortedBy-filter by_bytes both keys sorted)
           (IsStrictlySortedBy-filter by_bytes shown listed ordered) members)
           ∙ sym (kept listed)

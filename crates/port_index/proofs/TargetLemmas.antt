@@ -12,7 +12,8 @@ use Rattle.port_index.specs.FilledRows.{is_one_of}
 use Rattle.port_index.specs.RowLaws.{NeededAreNamed}
 use Rattle.port_index.specs.PathOutcomes.{PathOutcome, Absent, Faulty, Port, BadPort, Lists, BadList, FlavoredList, Other}
 
-targets-of_depends : (path : List ℕ) (depends : List DependValue) → filter_map target_by depends ≡ filter_map target_of (map (item_at path) (map item_of depends))
+targets-of_depends : (path : List ℕ) (depends : List DependValue) → filter_map target_by depends ≡ filter_map target_of
+    (map (item_at path) (map item_of depends))
 targets-of_depends path [] = refl
 targets-of_depends path (depend ∷ depends) = ap (cons_option (target_by depend)) (targets-of_depends path depends)
 
@@ -34,10 +35,12 @@ targets-among outcomes (path ∷ paths) =
     (λ i. targets-of_items path (outcomes path) i ++ targets-among outcomes paths i)
     ∙ sym (filter_map-append target_of (items_in path (outcomes path)) (items_among outcomes paths))
 
-named_by_one : (path : List ℕ) (targets : List ℕ → List (List ℕ)) (paths : List (List ℕ)) → is_one_of path (flat_map targets paths) ≡ list_any (λ one. is_one_of path (targets one)) paths
+named_by_one : (path : List ℕ) (targets : List ℕ → List (List ℕ)) (paths : List (List ℕ)) → is_one_of path (flat_map targets paths) ≡
+    list_any (λ one. is_one_of path (targets one)) paths
 named_by_one path targets [] = refl
 named_by_one path targets (one ∷ paths) =
-    list_any-append (λ other. bytes_eq other path) (targets one) (flat_map targets paths) ∙ ap (λ b. is_one_of path (targets one) || b) (named_by_one path targets paths)
+    list_any-append (λ other. bytes_eq other path) (targets one) (flat_map targets paths) ∙ ap (λ b. is_one_of path (targets one) || b)
+        (named_by_one path targets paths)
 
 -- a path is needed if it is listed, or if a listed path's row names it
 pub needed-named : NeededAreNamed

@@ -43,7 +43,8 @@ outside text (x ∷ texts) above = ap (λ b. b || is_one_of text texts) (differs
 module _ (weight : List ℕ → ℕ) where
   added_by : (k x : List ℕ) (texts : List (List ℕ)) (o : Ordering) → by_bytes k x ≡ o → IsStrictlySortedBy by_bytes (x ∷ texts)
       → sum_by weight (insert_key by_bytes texts k) ≡ sum_by weight texts + unless texts weight k
-      → sum_by weight (match_ordering o (k ∷ x ∷ texts) (x ∷ texts) (x ∷ insert_key by_bytes texts k)) ≡ sum_by weight (x ∷ texts) + unless (x ∷ texts) weight k
+      → sum_by weight (match_ordering o (k ∷ x ∷ texts) (x ∷ texts) (x ∷ insert_key by_bytes texts k)) ≡ sum_by weight (x ∷ texts) +
+          unless (x ∷ texts) weight k
   unfolding IsStrictlySortedBy
   added_by k x texts Less is sorted rest =
       let out = ap (λ (b : Bool). if b then 0 else weight k) (outside k (x ∷ texts) (is, further k x texts is sorted.0)) in
@@ -56,20 +57,23 @@ module _ (weight : List ℕ → ℕ) where
       let other = ap (λ (b : Bool). if b || is_one_of k texts then 0 else weight k) (differs k x Greater is refl) in
       omega (arith, sum_by-cons weight x (insert_key by_bytes texts k), sum_by-cons weight x texts, rest, other)
 
-  added : (k : List ℕ) (texts : List (List ℕ)) → IsStrictlySortedBy by_bytes texts → sum_by weight (insert_key by_bytes texts k) ≡ sum_by weight texts + unless texts weight k
+  added : (k : List ℕ) (texts : List (List ℕ)) → IsStrictlySortedBy by_bytes texts → sum_by weight (insert_key by_bytes texts k) ≡ sum_by
+      weight texts + unless texts weight k
   unfolding IsStrictlySortedBy
   added k [] sorted = refl
   added k (x ∷ texts) sorted = added_by k x texts (by_bytes k x) refl sorted (added k texts sorted.1)
 
   -- one text more
-  one_more : (x : List ℕ) (texts : List (List ℕ)) → sum_by weight (in_order (x ∷ texts)) ≡ sum_by weight (in_order texts) + unless texts weight x
+  one_more : (x : List ℕ) (texts : List (List ℕ)) → sum_by weight (in_order (x ∷ texts)) ≡ sum_by weight
+      (in_order texts) + unless texts weight x
   one_more x texts =
       added x (in_order texts) (in_order-sorted texts)
       ∙ ap (λ (b : Bool). sum_by weight (in_order texts) + (if b then 0 else weight x)) (among-in_order (λ one. bytes_eq one x) texts)
 
   taken_out_by : (x z : List ℕ) (texts : List (List ℕ)) (same : Bool) → bytes_eq x z ≡ same → Above z texts
       → sum_by weight texts ≡ sum_by (without x weight) texts + (if is_one_of x texts then weight x else 0)
-      → weight z + sum_by weight texts ≡ ((if same then 0 else weight z) + sum_by (without x weight) texts) + (if same || is_one_of x texts then weight x else 0)
+      → weight z + sum_by weight texts ≡ ((if same then 0 else weight z) + sum_by (without x weight) texts) +
+          (if same || is_one_of x texts then weight x else 0)
   taken_out_by x z texts true is above rest =
       let this : x ≡ z = (bytes_eq-Decides x z).0 is in
       let out = ap (λ (b : Bool). if b then weight x else 0) (outside x texts (subst (λ t. Above t texts) (sym this) above)) in
@@ -85,7 +89,8 @@ module _ (weight : List ℕ → ℕ) where
   taken_out x (z ∷ texts) sorted =
       sum_by-cons weight z texts
       ∙ taken_out_by x z texts (bytes_eq x z) refl sorted.0 (taken_out x texts sorted.1)
-      ∙ ap (λ (b : Bool). ((if bytes_eq x z then 0 else weight z) + sum_by (without x weight) texts) + (if b || is_one_of x texts then weight x else 0)) (bytes_eq-sym x z)
+      ∙ ap (λ (b : Bool). ((if bytes_eq x z then 0 else weight z) + sum_by (without x weight) texts) +
+          (if b || is_one_of x texts then weight x else 0)) (bytes_eq-sym x z)
       ∙ ap (λ n. n + (if is_one_of x (z ∷ texts) then weight x else 0)) (sym (sum_by-cons (without x weight) z texts))
 
 without_both : (weight : List ℕ → ℕ) (x : List ℕ) (texts : List (List ℕ)) (y : List ℕ) (same : Bool)
@@ -93,14 +98,16 @@ without_both : (weight : List ℕ → ℕ) (x : List ℕ) (texts : List (List �
 without_both weight x texts y true = refl
 without_both weight x texts y false = refl
 
-either : (first second : Bool) (n : ℕ) → (if second then (if first then 0 else n) else 0) + (if first || second then 0 else n) ≡ (if first then 0 else n)
+either : (first second : Bool) (n : ℕ) → (if second then (if first then 0 else n) else 0) + (if first || second then 0 else n) ≡
+    (if first then 0 else n)
 either true true n = refl
 either true false n = refl
 either false true n = omega arith
 either false false n = omega arith
 
 -- the sum of two lists of texts: those of the second count unless they are among the first
-pub sum-joined : (weight : List ℕ → ℕ) (xs ys : List (List ℕ)) → sum_by weight (in_order (xs ++ ys)) ≡ sum_by weight (in_order xs) + sum_by (unless xs weight) (in_order ys)
+pub sum-joined : (weight : List ℕ → ℕ) (xs ys : List (List ℕ)) → sum_by weight (in_order (xs ++ ys)) ≡ sum_by weight (in_order xs) + sum_by
+    (unless xs weight) (in_order ys)
 sum-joined weight [] ys = omega arith
 sum-joined weight (x ∷ xs) ys =
     let rest = sum-joined weight xs ys in
@@ -116,12 +123,14 @@ sum-joined weight (x ∷ xs) ys =
 
 kept_by : {X : Type 0} (test : X → Bool) (weight : X → ℕ) (x : X) (xs : List X) (passes : Bool)
     → sum_by weight (filter test xs) ≡ sum_by (λ y. if test y then weight y else 0) xs
-    → sum_by weight (if passes then x ∷ filter test xs else filter test xs) ≡ (if passes then weight x else 0) + sum_by (λ y. if test y then weight y else 0) xs
+    → sum_by weight (if passes then x ∷ filter test xs else filter test xs) ≡ (if passes then weight x else 0) + sum_by
+        (λ y. if test y then weight y else 0) xs
 kept_by test weight x xs true rest = sum_by-cons weight x (filter test xs) ∙ ap (λ n. weight x + n) rest
 kept_by test weight x xs false rest = rest ∙ omega arith
 
 -- the sum of what passes a test
-pub sum-filter : {X : Type 0} (test : X → Bool) (weight : X → ℕ) (xs : List X) → sum_by weight (filter test xs) ≡ sum_by (λ x. if test x then weight x else 0) xs
+pub sum-filter : {X : Type 0} (test : X → Bool) (weight : X → ℕ) (xs : List X) → sum_by weight (filter test xs) ≡ sum_by
+    (λ x. if test x then weight x else 0) xs
 sum-filter test weight [] = refl
 sum-filter test weight (x ∷ xs) =
     kept_by test weight x xs (test x) (sum-filter test weight xs) ∙ sym (sum_by-cons (λ y. if test y then weight y else 0) x xs)

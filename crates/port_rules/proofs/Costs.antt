@@ -15,7 +15,8 @@ use Rattle.port_rules.specs.Packages.{are_subpackages, default_name, full_name, 
 use Rattle.port_rules.specs.Packages.{package_base, package_of, packages_of, present, readable, subpackages_of}
 use Rattle.port_rules.specs.Ports.{PortValue, port_of}
 use Rattle.port_rules.specs.Records.{RecordsCostFew, record_units, recorded}
-use Rattle.port_rules.specs.Values.{asked_text, asked_words, lowercase_words, or_else, package_text, package_value, package_words, value, value_or}
+use Rattle.port_rules.specs.Values.{asked_text, asked_words, lowercase_words, or_else, package_text, package_value, package_words, value}
+use Rattle.port_rules.specs.Values.{value_or}
 
 steady-value : (variables : Variables) (name : List ℕ) → Steady (value variables name)
 unfolding value
@@ -67,7 +68,8 @@ steady-flavors_of variables =
 steady-subpackages_of : (variables : Variables) → Steady (subpackages_of variables)
 unfolding subpackages_of
 steady-subpackages_of variables =
-    bind (steady-asked_words variables (codes "MULTI_PACKAGES")) (λ names. either (are_subpackages names) (steady-give _) (steady-fail kinds.BadName))
+    bind (steady-asked_words variables (codes "MULTI_PACKAGES")) (λ names. either (are_subpackages names) (steady-give _)
+        (steady-fail kinds.BadName))
 
 steady-present : (text : Option (List ℕ)) → Steady (present text)
 steady-present None = steady-fail kinds.NoName
@@ -84,17 +86,22 @@ steady-package_base variables subpackage =
     bind (steady-value variables _) (λ own. steady-or_else own _
     (bind (steady-value_or variables (codes "PKGNAME") (codes "DISTNAME")) (λ found. steady-give _)))
 
-steady-made_name : (variables : Variables) (marks : List (List ℕ)) (subpackage base : List ℕ) → Steady (made_name variables marks subpackage base)
+steady-made_name : (variables : Variables) (marks : List (List ℕ)) (subpackage base : List ℕ)
+    → Steady (made_name variables marks subpackage base)
 steady-made_name variables marks subpackage base =
-    bind (steady-package_value variables (codes "REVISION") subpackage) (λ revision. bind (steady-package_value variables (codes "EPOCH") subpackage)
+    bind (steady-package_value variables (codes "REVISION") subpackage)
+        (λ revision. bind (steady-package_value variables (codes "EPOCH") subpackage)
     (λ epoch. bind (steady-readable (split_name base)) (λ name. steady-readable _)))
 
-steady-default_name : (variables : Variables) (marks : List (List ℕ)) (subpackage : List ℕ) → Steady (default_name variables marks subpackage)
+steady-default_name : (variables : Variables) (marks : List (List ℕ)) (subpackage : List ℕ)
+    → Steady (default_name variables marks subpackage)
 unfolding default_name
 steady-default_name variables marks subpackage =
-    bind (steady-package_base variables subpackage) (λ base. bind (steady-present base) (λ name. steady-made_name variables marks subpackage name))
+    bind (steady-package_base variables subpackage)
+        (λ base. bind (steady-present base) (λ name. steady-made_name variables marks subpackage name))
 
-steady-name_from : (variables : Variables) (marks : List (List ℕ)) (subpackage : List ℕ) (text : Option (List ℕ)) → Steady (name_from variables marks subpackage text)
+steady-name_from : (variables : Variables) (marks : List (List ℕ)) (subpackage : List ℕ) (text : Option (List ℕ))
+    → Steady (name_from variables marks subpackage text)
 steady-name_from variables marks subpackage None = steady-default_name variables marks subpackage
 steady-name_from variables marks subpackage (Some text) = bind (steady-present (Some text)) (λ name. steady-readable (split_name name))
 
@@ -112,7 +119,8 @@ steady-packages_of : (variables : Variables) (marks subpackages : List (List ℕ
 steady-packages_of variables marks subpackages =
     over (λ packages subpackage. bind (steady-package_of variables marks subpackage) (λ found. steady-give _)) [] subpackages
 
-steady-add_depends : (variables : Variables) (found : List DependValue) (subpackage : List ℕ) → Steady (add_depends variables found subpackage)
+steady-add_depends : (variables : Variables) (found : List DependValue) (subpackage : List ℕ)
+    → Steady (add_depends variables found subpackage)
 unfolding add_depends
 steady-add_depends variables found subpackage =
     bind (steady-package_words variables (codes "LIB_DEPENDS") subpackage) (λ lib.
@@ -128,10 +136,13 @@ steady-port_of : (variables : Variables) → Steady (port_of variables)
 unfolding port_of
 steady-port_of variables =
     bind (steady-flavors_of variables) (λ flavors. bind (steady-subpackages_of variables) (λ subpackages.
-    bind (steady-asked_text variables (codes "MAINTAINER")) (λ maintainer. bind (steady-asked_words variables (codes "CATEGORIES")) (λ categories.
-    bind (steady-packages_of variables _ subpackages) (λ packages. bind (steady-depends_of variables subpackages) (λ depends. steady-give _))))))
+    bind (steady-asked_text variables (codes "MAINTAINER"))
+        (λ maintainer. bind (steady-asked_words variables (codes "CATEGORIES")) (λ categories.
+    bind (steady-packages_of variables _ subpackages) (λ packages. bind (steady-depends_of variables subpackages)
+        (λ depends. steady-give _))))))
 
-recorded-costs : (makefile : List ℕ) (end : Result (PortValue × Meter) (FaultKind × Meter)) → record_units (recorded makefile end) ≡ (left end).spent
+recorded-costs : (makefile : List ℕ) (end : Result (PortValue × Meter) (FaultKind × Meter))
+    → record_units (recorded makefile end) ≡ (left end).spent
 recorded-costs makefile (Ok end) = refl
 recorded-costs makefile (Err end) = refl
 

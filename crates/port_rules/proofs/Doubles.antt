@@ -1,5 +1,6 @@
 -- Doubles in a list that is read from the front.
-use Rattle.std.proofs.Common.{◌≡◌, ◌∙◌, ◌<◌, ◌+◌, sym, ap, refl, ℕ, Bool, true, false, not, ◌||◌, List, [], ◌∷◌, ◌++◌, length, map, take, drop, get_or, String, string_bytes, Global}
+use Rattle.std.proofs.Common.{◌≡◌, ◌∙◌, ◌<◌, ◌+◌, sym, ap, refl, ℕ, Bool, true, false, not, ◌||◌, List, [], ◌∷◌, ◌++◌, length, map, take}
+use Rattle.std.proofs.Common.{drop, get_or, String, string_bytes, Global}
 use Rattle.std.proofs.lemmas.Bool.{false≢true}
 use Rattle.std.proofs.lemmas.Cmp.{nat_list_eq_equiv}
 use Rattle.std.proofs.lemmas.List.{map-append, take_more, take-append-drop}
@@ -23,7 +24,8 @@ has_double-more [] text = refl
 has_double-more (first ∷ texts) text =
     ap (λ found. found || has_double (texts ++ text ∷ [])) (list_any-append (bytes_eq first) texts (text ∷ []))
     ∙ ap (λ found. (is_among first texts || (bytes_eq first text || false)) || found) (has_double-more texts text)
-    ∙ ap (λ same. (is_among first texts || (same || false)) || (is_among text texts || has_double texts)) (nat_list_eq_equiv.symm first text)
+    ∙ ap (λ same. (is_among first texts || (same || false)) || (is_among text texts || has_double texts))
+        (nat_list_eq_equiv.symm first text)
     ∙ regroup (is_among first texts) (bytes_eq text first) (is_among text texts) (has_double texts)
 
 stays : (front more double whole : Bool) → (double ≡ true → whole ≡ true) → (front || double) ≡ true → ((front || more) || whole) ≡ true
@@ -45,18 +47,22 @@ with-false false double is = is
 with-one-more : (items : List (String Global)) (i : ℕ) (item : String Global) → i < length items → item ≡ get_or items i item
     → map string_bytes (take (i + 1) items) ≡ map string_bytes (take i items) ++ string_bytes item ∷ []
 with-one-more items i item below is =
-    ap (map string_bytes) (take_more items i item below ∙ ap (λ x. take i items ++ x ∷ []) (sym is)) ∙ map-append string_bytes (take i items) (item ∷ [])
+    ap (map string_bytes) (take_more items i item below ∙ ap (λ x. take i items ++ x ∷ []) (sym is))
+        ∙ map-append string_bytes (take i items) (item ∷ [])
 
 -- whether the next item is a double is whether it was there already
-pub has_double-next : (items : List (String Global)) (i : ℕ) (item : String Global) (held : Bool) → i < length items → item ≡ get_or items i item
+pub has_double-next : (items : List (String Global)) (i : ℕ) (item : String Global) (held : Bool) → i < length items
+    → item ≡ get_or items i item
     → held ≡ is_among (string_bytes item) (map string_bytes (take i items)) → has_double (map string_bytes (take i items)) ≡ false
     → has_double (map string_bytes (take (i + 1) items)) ≡ held
 has_double-next items i item held below is held-is apart =
     ap has_double (with-one-more items i item below is) ∙ has_double-more (map string_bytes (take i items)) (string_bytes item)
-    ∙ with-false (is_among (string_bytes item) (map string_bytes (take i items))) (has_double (map string_bytes (take i items))) apart ∙ sym held-is
+    ∙ with-false (is_among (string_bytes item) (map string_bytes (take i items))) (has_double (map string_bytes (take i items))) apart
+    ∙ sym held-is
 
 -- and then there is one in all of them
-pub has_double-found : (items : List (String Global)) (i : ℕ) → has_double (map string_bytes (take i items)) ≡ true → has_double (map string_bytes items) ≡ true
+pub has_double-found : (items : List (String Global)) (i : ℕ) → has_double (map string_bytes (take i items)) ≡ true
+    → has_double (map string_bytes items) ≡ true
 has_double-found items i is =
     ap (λ all. has_double (map string_bytes all)) (sym (take-append-drop i items))
     ∙ ap has_double (map-append string_bytes (take i items) (drop i items))
@@ -71,8 +77,10 @@ new is_new true is fresh = absurd (false≢true (sym is ∙ fresh))
 new is_new false is fresh = refl
 
 -- which texts are among the items, with one more
-pub is_among-more : (items : List (String Global)) (i : ℕ) (item : String Global) (text : List ℕ) → i < length items → item ≡ get_or items i item
-    → is_among text (map string_bytes (take (i + 1) items)) ≡ (bytes_eq text (string_bytes item) || is_among text (map string_bytes (take i items)))
+pub is_among-more : (items : List (String Global)) (i : ℕ) (item : String Global) (text : List ℕ) → i < length items
+    → item ≡ get_or items i item
+    → is_among text (map string_bytes (take (i + 1) items)) ≡
+        (bytes_eq text (string_bytes item) || is_among text (map string_bytes (take i items)))
 is_among-more items i item text below is =
     ap (is_among text) (with-one-more items i item below is)
     ∙ list_any-append (bytes_eq text) (map string_bytes (take i items)) (string_bytes item ∷ [])

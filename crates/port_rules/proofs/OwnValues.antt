@@ -1,5 +1,6 @@
 -- The values of the one package of a port that names none.
-use Rattle.std.proofs.Common.{◌≡◌, ◌∙◌, ◌++◌, ap, cond, refl, ℕ, Bool, true, false, List, [], Option, Some, None, is_some, Result, Ok, Err, codes, append-nil}
+use Rattle.std.proofs.Common.{◌≡◌, ◌∙◌, ◌++◌, ap, cond, refl, ℕ, Bool, true, false, List, [], Option, Some, None, is_some, Result, Ok, Err}
+use Rattle.std.proofs.Common.{codes, append-nil}
 use Rattle.std.specs.Str.{bytes_eq}
 use Rattle.mk_base.specs.declared.faults.FaultKind.{FaultKind}
 use Rattle.mk_base.specs.Meter.{Meter}

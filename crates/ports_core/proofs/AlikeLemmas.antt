@@ -19,10 +19,12 @@ unfoldable pub replies_from : World → List PlainRequest → List ReplyMessage
 replies_from world [] = []
 replies_from world (request ∷ requests) = (plain world request).0 ∷ replies_from (plain world request).1 requests
 
-pub replies-plain_run : (queued_requests : List QueuedRequest) (world : World) → map (λ (answer : ℕ × ReplyMessage). answer.1) (plain_run world queued_requests) ≡ replies_from world (requests_of queued_requests)
+pub replies-plain_run : (queued_requests : List QueuedRequest) (world : World) → map (λ (answer : ℕ × ReplyMessage). answer.1)
+    (plain_run world queued_requests) ≡ replies_from world (requests_of queued_requests)
 unfolding replies_from
 replies-plain_run [] world = refl
-replies-plain_run (queued_request ∷ queued_requests) world = ap (λ rs. (plain_answer world queued_request.request).0 ∷ rs) (replies-plain_run queued_requests (plain_answer world queued_request.request).1)
+replies-plain_run (queued_request ∷ queued_requests) world = ap (λ rs. (plain_answer world queued_request.request).0 ∷ rs)
+    (replies-plain_run queued_requests (plain_answer world queued_request.request).1)
 
 pub map-append : {X Y : Type 0} (f : X → Y) (xs ys : List X) → map f (xs ++ ys) ≡ map f xs ++ map f ys
 map-append f [] ys = refl
@@ -41,19 +43,23 @@ fronts (x ∷ xs) (y ∷ ys) ls bs e =
     ]
 
 -- the replies told, and those to come, are those of the plain service to the own requests
-all_replies : (keys : List (List ℕ)) (t : ℕ) (events : List Event) (steps : List Effect) (service : State) (told : IsToldPlainly keys t events steps service)
+all_replies : (keys : List (List ℕ)) (t : ℕ) (events : List Event) (steps : List Effect) (service : State)
+    (told : IsToldPlainly keys t events steps service)
     → replies_to t steps ++ map (λ (answer : ℕ × ReplyMessage). answer.1) told.later ≡ replies_from opening_world (own_requests told)
 all_replies keys t events steps service told =
     sym (map-append (λ (answer : ℕ × ReplyMessage). answer.1) (answers_of (told_to t steps)) told.later)
     ∙ ap (map (λ (answer : ℕ × ReplyMessage). answer.1)) told.plainly
     ∙ replies-plain_run (own_of told.taken (told_to t steps)) opening_world
 
-pub told_alike : (keys other_keys : List (List ℕ)) (t u : ℕ) (events other_events : List Event) (steps others : List Effect) (service other : State)
+pub told_alike : (keys other_keys : List (List ℕ)) (t u : ℕ) (events other_events : List Event)
+    (steps others : List Effect) (service other : State)
     → (told : IsToldPlainly keys t events steps service) (told_there : IsToldPlainly other_keys u other_events others other)
     → own_requests told ≡ own_requests told_there → AreToldAlike t steps service u others other
 told_alike keys other_keys t u events other_events steps others service other told told_there same =
-    let all : replies_to t steps ++ map (λ (answer : ℕ × ReplyMessage). answer.1) told.later ≡ replies_to u others ++ map (λ (answer : ℕ × ReplyMessage). answer.1) told_there.later =
-    all_replies keys t events steps service told ∙ ap (replies_from opening_world) same ∙ sym (all_replies other_keys u other_events others other told_there) in
+    let all : replies_to t steps ++ map (λ (answer : ℕ × ReplyMessage). answer.1) told.later ≡ replies_to u others ++ map
+        (λ (answer : ℕ × ReplyMessage). answer.1) told_there.later =
+    all_replies keys t events steps service told ∙ ap (replies_from opening_world) same
+        ∙ sym (all_replies other_keys u other_events others other told_there) in
     record {
       alike = fronts (replies_to t steps) (replies_to u others) _ _ all;
       whole = λ none none_there.

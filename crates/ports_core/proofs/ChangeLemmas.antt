@@ -1,5 +1,6 @@
 -- What each event does to the slices and to the connections: all that proofs about runs see of it.
-use Rattle.std.proofs.Common.{◌≡◌, ◌<◌, ◌≤◌, ℕ, Bool, false, List, ◌∷◌, ◌++◌, Option, Some, None, refl, sym, ap, subst, ◌∙◌, inl, inr, arith}
+use Rattle.std.proofs.Common.{◌≡◌, ◌<◌, ◌≤◌, ℕ, Bool, false, List, ◌∷◌, ◌++◌, Option, Some, None, refl, sym, ap, subst, ◌∙◌, inl, inr}
+use Rattle.std.proofs.Common.{arith}
 use Rattle.std.specs.Prelude.{◌⊎◌, ◌&&◌, MatchBool, MatchOption, is_none, option_map}
 use Rattle.std.proofs.Math.Bool.{and-false}
 use Rattle.ports_core.specs.declared.event.Event.{Event}
@@ -24,19 +25,23 @@ use Rattle.ports_core.proofs.Lists.{none_some, some_same}
 use Rattle.ports_core.proofs.TakingLemmas.{nothing_after}
 
 -- a world and a queue after which requests wait
-sliced-joined : (queued_requests : List QueuedRequest) (world : Option World) (queue : Option Queue) → sliced world (option_map (λ (q : Queue). q ++ queued_requests) queue) ≡ option_map (with_requests queued_requests) (sliced world queue)
+sliced-joined : (queued_requests : List QueuedRequest) (world : Option World) (queue : Option Queue)
+    → sliced world (option_map (λ (q : Queue). q ++ queued_requests) queue) ≡ option_map
+    (with_requests queued_requests) (sliced world queue)
 sliced-joined queued_requests None queue = refl
 sliced-joined queued_requests (Some world) None = refl
 sliced-joined queued_requests (Some world) (Some queue) = refl
 
 -- what a slice is made of
-pub slice_parts : (world : Option World) (queue : Option Queue) (slice : Slice) → sliced world queue ≡ Some slice → (world ≡ Some slice.0) × (queue ≡ Some slice.1)
+pub slice_parts : (world : Option World) (queue : Option Queue) (slice : Slice) → sliced world queue ≡ Some slice → (world ≡ Some slice.0)
+    × (queue ≡ Some slice.1)
 slice_parts None queue slice e = absurd (none_some e)
 slice_parts (Some world) None slice e = absurd (none_some e)
 slice_parts (Some world) (Some queue) slice e = (ap (λ (s : Slice). Some s.0) (some_same e), ap (λ (s : Slice). Some s.1) (some_same e))
 
 -- no slice changes where no world and no queue does
-pub same_slice : (t : ℕ) (old new : State) → world_at t new ≡ world_at t old → queue_at t new ≡ queue_at t old → slice_of t new ≡ slice_of t old
+pub same_slice : (t : ℕ) (old new : State) → world_at t new ≡ world_at t old → queue_at t new ≡ queue_at t old
+    → slice_of t new ≡ slice_of t old
 same_slice t old new world queue = ap (λ w. sliced w (queue_at t new)) world ∙ ap (sliced (world_at t old)) queue
 
 -- what is told at once is told to no tenant
@@ -56,29 +61,37 @@ at_once_to_none keys c (Lost close) = refl
 enters : (event : Event) (c : ℕ) (told : Told) (old new : State) (h : Hears event c told old new) → Enters c told h.taken old new
 enters event c told old new h = record {
   to_none = subst ToNone (sym h.hears.takes.told_is) (at_once_to_none (keys_of old) c h.taken);
-  slices = λ t. ap (λ w. sliced w (queue_at t new)) (h.worlds t) ∙ ap (sliced (world_at t old)) (h.queues t) ∙ sliced-joined (entering (keys_of old) c h.taken t) (world_at t old) (queue_at t old);
+  slices = λ t. ap (λ w. sliced w (queue_at t new)) (h.worlds t) ∙ ap (sliced (world_at t old)) (h.queues t)
+      ∙ sliced-joined (entering (keys_of old) c h.taken t) (world_at t old) (queue_at t old);
 }
 
 -- nothing is taken off a connection that is lost
 lost_and_stays : (c : ℕ) (told : Told) (old new : State) (h : Hears (Fault c) c told old new) → KeepsSlices told h.taken old new
 lost_and_stays c told old new h =
     let connection : Connection = hears (Fault c) h.hears.connection in
-    let P : Bool → Type 0 = λ b. MatchBool b (TakesOff connection.stream h.taken h.hears.takes.stream) ((h.taken ≡ Nothing) × (h.hears.takes.stream ≡ connection.stream)) in
+    let P : Bool → Type 0 = λ b. MatchBool b (TakesOff connection.stream h.taken h.hears.takes.stream) ((h.taken ≡ Nothing)
+        × (h.hears.takes.stream ≡ connection.stream)) in
     let busy : P false = subst P (and-false (is_none connection.waits && is_empty connection.pending)) h.hears.takes.stands in
     record {
       nothing = busy.0;
       silent = h.hears.takes.told_is ∙ ap (refused_at_once (keys_of old) c) busy.0;
       slices = λ t. same_slice t old new (h.worlds t)
-          (h.queues t ∙ ap (λ k. option_map (λ (q : Queue). q ++ entering (keys_of old) c k t) (queue_at t old)) busy.0 ∙ sym (nothing_after (queue_at t old)));
+          (h.queues t ∙ ap (λ k. option_map (λ (q : Queue). q ++ entering (keys_of old) c k t) (queue_at t old)) busy.0
+              ∙ sym (nothing_after (queue_at t old)));
     }
 
 opens_and_stays : (told : Told) (old new : State) → Opens told old new → KeepsSlices told Nothing old new
-opens_and_stays told old new (inl h) = record { nothing = refl; silent = h.reply; slices = λ t. same_slice t old new (h.worlds t) (h.queues t) }
-opens_and_stays told old new (inr h) = record { nothing = refl; silent = h.reply; slices = λ t. same_slice t old new (h.same.worlds t) (h.same.queues t) }
+opens_and_stays told old new (inl h) = record { nothing = refl; silent = h.reply; slices = λ t. same_slice t old new
+    (h.worlds t) (h.queues t) }
+opens_and_stays told old new (inr h) = record { nothing = refl; silent = h.reply; slices = λ t. same_slice t old new
+    (h.same.worlds t) (h.same.queues t) }
 
-turns_change : (t : ℕ) (told : Told) (old new : State) → Turns t told old new → KeepsSlices told Nothing old new ⊎ FirstLeaves t told Nothing old new
-turns_change t told old new (inl h) = inl (record { nothing = refl; silent = h.reply; slices = λ u. same_slice u old new (h.same.worlds u) (h.same.queues u) })
-turns_change t told old new (inr (inl h)) = inl (record { nothing = refl; silent = h.reply; slices = λ u. same_slice u old new (h.same.worlds u) (h.same.queues u) })
+turns_change : (t : ℕ) (told : Told) (old new : State) → Turns t told old new → KeepsSlices told Nothing old new
+    ⊎ FirstLeaves t told Nothing old new
+turns_change t told old new (inl h) =
+    inl (record { nothing = refl; silent = h.reply; slices = λ u. same_slice u old new (h.same.worlds u) (h.same.queues u) })
+turns_change t told old new (inr (inl h)) =
+    inl (record { nothing = refl; silent = h.reply; slices = λ u. same_slice u old new (h.same.worlds u) (h.same.queues u) })
 turns_change t told old new (inr (inr h)) = inr (record {
   nothing = refl;
   slice = (h.answers.world, h.first ∷ h.rest);
@@ -106,7 +119,8 @@ taken_by (Wrote c count) told old new does = does.taken
 taken_by (Turn t) told old new does = Nothing
 
 -- the table of changes
-changes : (event : Event) (told : Told) (old new : State) (does : Does event told old new) → ChangesSlices event told (taken_by event told old new does) old new
+changes : (event : Event) (told : Told) (old new : State) (does : Does event told old new)
+    → ChangesSlices event told (taken_by event told old new does) old new
 unfolding taken_by
 changes (Open c) told old new does = opens_and_stays told old new does
 changes (Piece c bytes) told old new does = enters (Piece c bytes) c told old new does
@@ -117,21 +131,27 @@ changes (Turn t) told old new does = turns_change t told old new does
 
 opens_book : (c : ℕ) (told : Told) (old new : State) → c ≡ next_of old → Opens told old new → BookOpens c told (book_of old) (book_of new)
 opens_book c told old new number (inl h) =
-    let P : Option Refused → Type 0 = λ refused. MatchOption refused ((connection_of c new ≡ Some new_connection) × KeepsOthers c (book_of old) (book_of new)) (λ why. KeepsConnections (book_of old) (book_of new)) in
-    subst P (sym h.refused) (subst (λ n. (connection_of n new ≡ Some new_connection) × KeepsOthers n (book_of old) (book_of new)) (sym number) (h.connection, h.connections))
+    let P : Option Refused → Type 0 = λ refused. MatchOption refused ((connection_of c new ≡ Some new_connection)
+        × KeepsOthers c (book_of old) (book_of new)) (λ why. KeepsConnections (book_of old) (book_of new)) in
+    subst P (sym h.refused) (subst (λ n. (connection_of n new ≡ Some new_connection) × KeepsOthers n (book_of old) (book_of new))
+        (sym number) (h.connection, h.connections))
 opens_book c told old new number (inr h) =
-    let P : Option Refused → Type 0 = λ refused. MatchOption refused ((connection_of c new ≡ Some new_connection) × KeepsOthers c (book_of old) (book_of new)) (λ why. KeepsConnections (book_of old) (book_of new)) in
+    let P : Option Refused → Type 0 = λ refused. MatchOption refused ((connection_of c new ≡ Some new_connection)
+        × KeepsOthers c (book_of old) (book_of new)) (λ why. KeepsConnections (book_of old) (book_of new)) in
     subst P (sym h.refused) h.same.connections
 
 turns_book : (t : ℕ) (told : Told) (old new : State) → Turns t told old new → BookTurns told (book_of old) (book_of new)
 turns_book t told old new (inl h) =
-    let P : Option Tell → Type 0 = λ reply. MatchOption reply (KeepsConnections (book_of old) (book_of new)) (λ tell. TellsOn tell (book_of old) (book_of new)) in
+    let P : Option Tell → Type 0 = λ reply. MatchOption reply (KeepsConnections (book_of old) (book_of new))
+        (λ tell. TellsOn tell (book_of old) (book_of new)) in
     subst P (sym h.reply) h.same.connections
 turns_book t told old new (inr (inl h)) =
-    let P : Option Tell → Type 0 = λ reply. MatchOption reply (KeepsConnections (book_of old) (book_of new)) (λ tell. TellsOn tell (book_of old) (book_of new)) in
+    let P : Option Tell → Type 0 = λ reply. MatchOption reply (KeepsConnections (book_of old) (book_of new))
+        (λ tell. TellsOn tell (book_of old) (book_of new)) in
     subst P (sym h.reply) h.same.connections
 turns_book t told old new (inr (inr h)) =
-    let P : Option Tell → Type 0 = λ reply. MatchOption reply (KeepsConnections (book_of old) (book_of new)) (λ tell. TellsOn tell (book_of old) (book_of new)) in
+    let P : Option Tell → Type 0 = λ reply. MatchOption reply (KeepsConnections (book_of old) (book_of new))
+        (λ tell. TellsOn tell (book_of old) (book_of new)) in
     subst P (sym h.reply) h.tells
 
 -- the book-keeping

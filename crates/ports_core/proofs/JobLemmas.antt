@@ -42,7 +42,8 @@ none_under_way queue None empty for_first = refl
 none_under_way queue (Some job) empty for_first = absurd (none_some (sym (ap asked_first empty) ∙ for_first job refl))
 
 -- a job for the question of the first request is for this one's
-pub for_request : (queue : Queue) (first : QueuedRequest) (job : Option TenantJob) → Some first ≡ first_of queue → IsForFirst queue job → IsForRequest first.request job
+pub for_request : (queue : Queue) (first : QueuedRequest) (job : Option TenantJob) → Some first ≡ first_of queue → IsForFirst queue job
+    → IsForRequest first.request job
 for_request queue first job is for_first = λ one here.
     sym (some_same (ap (option_map (λ (w : QueuedRequest). question_of (plain_request_of w.request))) is ∙ for_first one here))
 
@@ -51,37 +52,47 @@ first-joined : (queue more : Queue) (asked : Question) → asked_first queue ≡
 first-joined [] more asked is = absurd (none_some is)
 first-joined (one ∷ rest) more asked is = is
 
-pub joined_first : (keys : List (List ℕ)) (c : ℕ) (taken : Taken) (queues queues_after : List Queue) (jobs : List (Option TenantJob)) → Joins keys c taken queues queues_after → AreForFirst queues jobs → AreForFirst queues_after jobs
+pub joined_first : (keys : List (List ℕ)) (c : ℕ) (taken : Taken) (queues queues_after : List Queue) (jobs : List (Option TenantJob))
+    → Joins keys c taken queues queues_after → AreForFirst queues jobs → AreForFirst queues_after jobs
 joined_first keys c taken queues queues_after jobs joins are = λ t queue was job is.
     let from = option_from (λ (q : Queue). q ++ entering keys c taken t) (slice_get queues t) queue (sym (joins t) ∙ was) in
-    subst (λ (q : Queue). asked_first q ≡ Some job.question) from.2 (first-joined from.0 (entering keys c taken t) job.question (are t from.0 from.1 job is))
+    subst (λ (q : Queue). asked_first q ≡ Some job.question) from.2 (first-joined from.0 (entering keys c taken t) job.question
+        (are t from.0 from.1 job is))
 
 -- what work leaves of the job, without a reply and with one
-pub pending_job : {A : Type 0} (t : ℕ) (request : RequestMessage) (reply : Option A) (spent : Spent) (job : Option TenantJob) (jobs jobs_after : List (Option TenantJob)) → reply ≡ None
-    → BecomesJob t (job_after request reply spent job) jobs jobs_after → BecomesJob t (job_after {A = Tell} request None spent job) jobs jobs_after
+pub pending_job : {A : Type 0} (t : ℕ) (request : RequestMessage) (reply : Option A) (spent : Spent) (job : Option TenantJob)
+    (jobs jobs_after : List (Option TenantJob)) → reply ≡ None
+    → BecomesJob t (job_after request reply spent job) jobs jobs_after
+    → BecomesJob t (job_after {A = Tell} request None spent job) jobs jobs_after
 pending_job t request None spent job jobs jobs_after none becomes = becomes
 pending_job t request (Some answer) spent job jobs jobs_after none becomes = absurd (none_some (sym none))
 
-pub answered_job : {A : Type 0} (t : ℕ) (request : RequestMessage) (reply : Option A) (answer : A) (spent : Spent) (job : Option TenantJob) (jobs jobs_after : List (Option TenantJob)) → reply ≡ Some answer
+pub answered_job : {A : Type 0} (t : ℕ) (request : RequestMessage) (reply : Option A) (answer : A) (spent : Spent) (job : Option TenantJob)
+    (jobs jobs_after : List (Option TenantJob)) → reply ≡ Some answer
     → BecomesJob t (job_after request reply spent job) jobs jobs_after → BecomesJob t None jobs jobs_after
 answered_job t request None answer spent job jobs jobs_after some becomes = absurd (none_some some)
 answered_job t request (Some one) answer spent job jobs jobs_after some becomes = becomes
 
 -- a turn in which nothing is told
-pub pending_first : (t : ℕ) (queues queues_after : List Queue) (queue : Queue) (first : QueuedRequest) (spent : Spent) (before : Option TenantJob) (jobs jobs_after : List (Option TenantJob))
+pub pending_first : (t : ℕ) (queues queues_after : List Queue) (queue : Queue) (first : QueuedRequest) (spent : Spent)
+    (before : Option TenantJob) (jobs jobs_after : List (Option TenantJob))
     → slice_get queues t ≡ Some queue → ((u : ℕ) → slice_get queues_after u ≡ slice_get queues u) → Some first ≡ first_of queue
-    → BecomesJob t (job_after {A = Tell} first.request None spent before) jobs jobs_after → AreForFirst queues jobs → AreForFirst queues_after jobs_after
+    → BecomesJob t (job_after {A = Tell} first.request None spent before) jobs jobs_after → AreForFirst queues jobs
+    → AreForFirst queues_after jobs_after
 pending_first t queues queues_after queue first spent before jobs jobs_after was same first_is becomes are = λ u q there job is.
     ⊎_elim
     (λ here.
     let mine : queue ≡ q = some_same (sym was ∙ ap (slice_get queues) (sym here) ∙ sym (same u) ∙ there) in
-    let this : job.question ≡ question_of (plain_request_of first.request) = ap (λ (j : TenantJob). j.question) (some_same (sym is ∙ ap (λ n. job_in n jobs_after) here ∙ becomes.job_is)) in
-    ap asked_first (sym mine) ∙ sym (ap (option_map (λ (w : QueuedRequest). question_of (plain_request_of w.request))) first_is) ∙ ap Some (sym this))
+    let this : job.question ≡ question_of (plain_request_of first.request) = ap (λ (j : TenantJob). j.question)
+        (some_same (sym is ∙ ap (λ n. job_in n jobs_after) here ∙ becomes.job_is)) in
+    ap asked_first (sym mine) ∙ sym (ap (option_map (λ (w : QueuedRequest). question_of (plain_request_of w.request))) first_is)
+        ∙ ap Some (sym this))
     (λ ne. are u q (sym (same u) ∙ there) job (sym (becomes.others u ne) ∙ is))
     (cases_eq u t)
 
 -- a turn in which a reply is told
-pub answered_first : (t : ℕ) (queues : List Queue) (after : Queue) (jobs jobs_after : List (Option TenantJob)) → BecomesJob t None jobs jobs_after → AreForFirst queues jobs → AreForFirst (set queues t after) jobs_after
+pub answered_first : (t : ℕ) (queues : List Queue) (after : Queue) (jobs jobs_after : List (Option TenantJob))
+    → BecomesJob t None jobs jobs_after → AreForFirst queues jobs → AreForFirst (set queues t after) jobs_after
 answered_first t queues after jobs jobs_after becomes are = λ u q there job is.
     ⊎_elim
     (λ here. absurd (none_some (sym becomes.job_is ∙ ap (λ n. job_in n jobs_after) (sym here) ∙ is)))
@@ -98,7 +109,8 @@ begun_first queues n jobs are = λ t queue was job is. absurd (none_some (sym (n
     none_in (suc n) (suc t) = none_in n t
 
 -- where nothing waits, there is no job after a turn either
-pub idle_job : (t : ℕ) (told : Told) (queues : List Queue) (queue : Queue) (jobs : List (Option TenantJob)) → slice_get queues t ≡ Some queue → queue ≡ [] → AreForFirst queues jobs
+pub idle_job : (t : ℕ) (told : Told) (queues : List Queue) (queue : Queue) (jobs : List (Option TenantJob))
+    → slice_get queues t ≡ Some queue → queue ≡ [] → AreForFirst queues jobs
     → BecomesJob t (job_after_turn (option_and_then first_of (slice_get queues t)) told (job_in t jobs)) jobs jobs
 idle_job t told queues queue jobs was empty are =
     let none : option_and_then first_of (slice_get queues t) ≡ None = ap (option_and_then first_of) (was ∙ ap Some empty) in
@@ -108,7 +120,8 @@ idle_job t told queues queue jobs was empty are =
     }
 
 -- what work leaves of the job for the first request is what the turn does
-pub turn_job : (t : ℕ) (told : Told) (queues : List Queue) (queue : Queue) (first : QueuedRequest) (reply : Option Tell) (spent : Spent) (jobs jobs_after : List (Option TenantJob))
+pub turn_job : (t : ℕ) (told : Told) (queues : List Queue) (queue : Queue) (first : QueuedRequest) (reply : Option Tell) (spent : Spent)
+    (jobs jobs_after : List (Option TenantJob))
     → slice_get queues t ≡ Some queue → Some first ≡ first_of queue → told.reply ≡ reply → spent_as_told told ≡ spent
     → BecomesJob t (job_after first.request reply spent (job_in t jobs)) jobs jobs_after
     → BecomesJob t (job_after_turn (option_and_then first_of (slice_get queues t)) told (job_in t jobs)) jobs jobs_after

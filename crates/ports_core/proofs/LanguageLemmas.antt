@@ -19,4 +19,5 @@ stays-in kept profile world (queued ∷ requests) is none =
     (is, stays-in kept profile (plain_answer world queued.request).1 requests stays (All-tail AsksNoProfile queued requests none))
 
 pub each-stays : OthersKeepTheProfile → EachStaysInItsProfile
-each-stays kept t slice events steps old new served none = stays-in kept (profile_of (world_of slice)) (world_of slice) served.answered refl none
+each-stays kept t slice events steps old new served none = stays-in kept (profile_of (world_of slice)) (world_of slice)
+    served.answered refl none

@@ -1,5 +1,6 @@
 -- Places, writes and look-ups in lists.
-use Rattle.std.proofs.Common.{◌≡◌, ◌≢◌, ◌<◌, ℕ, zero, suc, ◌+◌, Bool, List, [], ◌∷◌, length, drop, take, ◌-◌, Option, Some, None, refl, sym, ap, subst, cond, arith, length-drop}
+use Rattle.std.proofs.Common.{◌≡◌, ◌≢◌, ◌<◌, ℕ, zero, suc, ◌+◌, Bool, List, [], ◌∷◌, length, drop, take, ◌-◌, Option, Some, None, refl, sym}
+use Rattle.std.proofs.Common.{ap, subst, cond, arith, length-drop}
 use Rattle.std.specs.Prelude.{IfNone, IfSome, map, option_map, replicate, slice_get, position, not}
 use Rattle.std.specs.List.{prefix_len}
 use Rattle.std.proofs.Math.ListN.{set}

@@ -1,6 +1,8 @@
 -- The places in which requests wait: they suffice, and each event keeps what is true of them.
-use Rattle.std.proofs.Common.{◌≡◌, ◌≢◌, ◌<◌, ◌≤◌, ◌+◌, ℕ, zero, suc, Bool, true, false, not, List, [], ◌∷◌, ◌++◌, length, refl, sym, ap, subst, ◌∙◌, arith, eq-eqb, ⊎_elim, append-nil, Option, Some, None, filter}
-use Rattle.std.specs.Prelude.{◌==◌, All, MatchBool, Result, Ok, Err, IfOk, is_err, replicate, is_some, option_map, option_and_then, slice_get, if◌then◌else◌, unwrap_or}
+use Rattle.std.proofs.Common.{◌≡◌, ◌≢◌, ◌<◌, ◌≤◌, ◌+◌, ℕ, zero, suc, Bool, true, false, not, List, [], ◌∷◌, ◌++◌, length, refl, sym, ap}
+use Rattle.std.proofs.Common.{subst, ◌∙◌, arith, eq-eqb, ⊎_elim, append-nil, Option, Some, None, filter}
+use Rattle.std.specs.Prelude.{◌==◌, All, MatchBool, Result, Ok, Err, IfOk, is_err, replicate, is_some, option_map, option_and_then}
+use Rattle.std.specs.Prelude.{slice_get, if◌then◌else◌, unwrap_or}
 use Rattle.std.specs.Ordering.{nat_cmp, is_eq}
 use Rattle.std.proofs.Math.ListN.{set}
 use Rattle.std.proofs.lemmas.Bool.{false≢true, cases_eq, and_parts}
@@ -17,7 +19,8 @@ use Rattle.ports_core.specs.declared.queue.QueuedRequest.{QueuedRequest}
 use Rattle.ports_core.specs.Keys.{tenant_of}
 use Rattle.ports_core.specs.Slices.{Queue}
 use Rattle.ports_core.specs.Connections.{hears, answered, kept, is_done, is_ready}
-use Rattle.ports_core.specs.Intake.{Taken, Nothing, Whole, Refusal, Lost, TakesOff, IsTaken, connection_with, connection_after, entering_of, entering, Joins}
+use Rattle.ports_core.specs.Intake.{Taken, Nothing, Whole, Refusal, Lost, TakesOff, IsTaken, connection_with, connection_after, entering_of}
+use Rattle.ports_core.specs.Intake.{entering, Joins}
 use Rattle.ports_core.specs.Opened.{connection_in, book_in, OpenAnd}
 use Rattle.ports_core.specs.Books.{HearsOn}
 use Rattle.ports_core.specs.Places.{HasPlace, count_from, may_wait, may_wait_on, AreSeated}
@@ -52,7 +55,8 @@ count-joined c w (x ∷ ws) =
 abbrev others : ℕ → List QueuedRequest → List QueuedRequest
 others k ws = filter (λ (w : QueuedRequest). not (w.conn == k)) ws
 
-split-cons : (b : Bool) (w : QueuedRequest) (xs ys : List QueuedRequest) (n : ℕ) → n ≡ length xs + length ys → n + 1 ≡ length (if b then w ∷ xs else xs) + length (if not b then w ∷ ys else ys)
+split-cons : (b : Bool) (w : QueuedRequest) (xs ys : List QueuedRequest) (n : ℕ) → n ≡ length xs + length ys
+    → n + 1 ≡ length (if b then w ∷ xs else xs) + length (if not b then w ∷ ys else ys)
 split-cons true w xs ys n e = omega arith
 split-cons false w xs ys n e = omega arith
 
@@ -63,7 +67,8 @@ count-split k (w ∷ ws) =
     let both = split-cons (w.conn == k) w (filter (λ (v : QueuedRequest). v.conn == k) ws) (others k ws) (length ws) ih in
     omega (arith, both)
 
-fewer-cons : (b : Bool) (c : ℕ) (w : QueuedRequest) (os : List QueuedRequest) (n : ℕ) → count_from c os ≤ n → count_from c (if not b then w ∷ os else os) ≤ one_if (w.conn == c) + n
+fewer-cons : (b : Bool) (c : ℕ) (w : QueuedRequest) (os : List QueuedRequest) (n : ℕ) → count_from c os ≤ n
+    → count_from c (if not b then w ∷ os else os) ≤ one_if (w.conn == c) + n
 fewer-cons true c w os n h = omega arith
 fewer-cons false c w os n h = let step = count-step c w os in omega (arith, step, h)
 
@@ -74,7 +79,8 @@ count-others k c (w ∷ ws) =
     let step = count-step c w ws in
     omega (arith, all, step)
 
-none-cons : (b : Bool) (k : ℕ) (w : QueuedRequest) (os : List QueuedRequest) → (w.conn == k) ≡ b → count_from k os ≡ 0 → count_from k (if not b then w ∷ os else os) ≡ 0
+none-cons : (b : Bool) (k : ℕ) (w : QueuedRequest) (os : List QueuedRequest) → (w.conn == k) ≡ b → count_from k os ≡ 0
+    → count_from k (if not b then w ∷ os else os) ≡ 0
 none-cons true k w os e h = h
 none-cons false k w os e h = count-step k w os ∙ ap (λ b. one_if b + count_from k os) e ∙ omega (arith, h)
 
@@ -94,16 +100,19 @@ connection_there : (c : ℕ) (e : ℕ × Connection) (es : List (ℕ × Connecti
 connection_there c e es ne = lookup_tail (λ k. is_eq (nat_cmp c k)) e es (is_eq-nat_cmp_other c e.0 (λ same. ne (sym same)))
 
 -- what waits for a tenant is no more than the connections that wait for it
-bound : (t : ℕ) (es : List (ℕ × Connection)) (ws : List QueuedRequest) → ((c : ℕ) → count_from c ws ≤ may_wait_on t (connection_in c es)) → length ws ≤ total t es
+bound : (t : ℕ) (es : List (ℕ × Connection)) (ws : List QueuedRequest) → ((c : ℕ) → count_from c ws ≤ may_wait_on t (connection_in c es))
+    → length ws ≤ total t es
 unfolding total
 bound t [] [] h = omega arith
 bound t [] (w ∷ ws) h = let here = h w.conn in let own = count-own w ws in absurd (omega (arith, here, own))
 bound t (e ∷ es) ws h =
-    let own : count_from e.0 ws ≤ may_wait t (e.1).waits = subst (λ o. count_from e.0 ws ≤ may_wait_on t o) (connection_here e es) (h e.0) in
+    let own : count_from e.0 ws ≤ may_wait t (e.1).waits = subst (λ o. count_from e.0 ws ≤ may_wait_on t o)
+        (connection_here e es) (h e.0) in
     let ih = bound t es (others e.0 ws) (λ c.
     ⊎_elim
     (λ same. let none = ap (λ k. count_from c (others k ws)) (sym same) ∙ count-others_same c ws in omega (arith, none))
-    (λ ne. let fewer = count-others e.0 c ws in let all = subst (λ o. count_from c ws ≤ may_wait_on t o) (connection_there c e es ne) (h c) in omega (arith, fewer, all))
+    (λ ne. let fewer = count-others e.0 c ws in let all = subst (λ o. count_from c ws ≤ may_wait_on t o) (connection_there c e es ne) (h c)
+        in omega (arith, fewer, all))
     (cases_eq c e.0)) in
     let split = count-split e.0 ws in
     omega (arith, own, ih, split)
@@ -118,7 +127,8 @@ total-le t [] = omega arith
 total-le t (e ∷ es) = let one = may_wait-one t (e.1).waits in let ih = total-le t es in omega (arith, one, ih)
 
 -- a connection that waits for nothing leaves a place
-total-lt : (t c : ℕ) (connection : Connection) (es : List (ℕ × Connection)) → connection_in c es ≡ Some connection → connection.waits ≡ None → total t es < length es
+total-lt : (t c : ℕ) (connection : Connection) (es : List (ℕ × Connection)) → connection_in c es ≡ Some connection → connection.waits ≡ None
+    → total t es < length es
 unfolding total
 total-lt t c connection [] at none = absurd (none_some at)
 total-lt t c connection (e ∷ es) at none =
@@ -128,14 +138,17 @@ total-lt t c connection (e ∷ es) at none =
     let zero_here : may_wait t (e.1).waits ≡ 0 = ap (λ (l : Connection). may_wait t l.waits) (some_same here) ∙ ap (may_wait t) none in
     let le = total-le t es in
     omega (arith, zero_here, le))
-    (λ ne. let ih = total-lt t c connection es (sym (connection_there c e es ne) ∙ at) none in let one = may_wait-one t (e.1).waits in omega (arith, ih, one))
+    (λ ne. let ih = total-lt t c connection es (sym (connection_there c e es ne) ∙ at) none in let one = may_wait-one t (e.1).waits
+        in omega (arith, ih, one))
     (cases_eq c e.0)
 
 -- where a connection waits for nothing, each tenant has a place
-pub places_left : (queues : List Queue) (es : List (ℕ × Connection)) (c : ℕ) (connection : Connection) → length es ≤ 16 → AreSeated queues es → connection_in c es ≡ Some connection → connection.waits ≡ None → All HasPlace queues
+pub places_left : (queues : List Queue) (es : List (ℕ × Connection)) (c : ℕ) (connection : Connection) → length es ≤ 16
+    → AreSeated queues es → connection_in c es ≡ Some connection → connection.waits ≡ None → All HasPlace queues
 places_left queues es c connection few seated at none = λ k d within.
     let fits : (queue : Queue) → slice_get queues k ≡ Some queue → HasPlace queue = λ queue was.
-    (let all = bound k es queue (λ q. seated k q queue was) in let lt = total-lt k c connection es at none in omega (arith, all, lt, few)) in
+    (let all = bound k es queue (λ q. seated k q queue was) in let lt = total-lt k c connection es at none in omega (arith, all, lt, few))
+        in
     ⊎_elim
     (λ found. subst HasPlace (sym (ap (λ o. unwrap_or o d) found.2) ∙ unwrap_or-slice_get queues k d) (fits found.0 found.2))
     (λ past. absurd (let above = past.0 in omega (arith, above, within)))
@@ -147,16 +160,21 @@ shut_waits t None e = refl
 shut_waits t (Some connection) e = absurd (false≢true (sym e))
 
 -- a connection opens
-pub opened_seats : (queues : List Queue) (connections after : List (ℕ × Connection)) (n : ℕ) → is_some (connection_in n connections) ≡ false → ((d : ℕ) → d ≢ n → connection_in d after ≡ connection_in d connections) → AreSeated queues connections → AreSeated queues after
+pub opened_seats : (queues : List Queue) (connections after : List (ℕ × Connection)) (n : ℕ) → is_some (connection_in n connections) ≡ false
+    → ((d : ℕ) → d ≢ n → connection_in d after ≡ connection_in d connections) → AreSeated queues connections → AreSeated queues after
 opened_seats queues connections after n shut same seated = λ t c queue was.
     ⊎_elim
-    (λ here. let none = ap (λ k. may_wait_on t (connection_in k connections)) here ∙ shut_waits t (connection_in n connections) shut in let all = seated t c queue was in omega (arith, none, all))
+    (λ here. let none = ap (λ k. may_wait_on t (connection_in k connections)) here ∙ shut_waits t (connection_in n connections) shut
+        in let all = seated t c queue was in omega (arith, none, all))
     (λ ne. subst (λ o. count_from c queue ≤ may_wait_on t o) (sym (same c ne)) (seated t c queue was))
     (cases_eq c n)
 
-pub opened_fresh : (connections after : List (ℕ × Connection)) (n : ℕ) → ((d : ℕ) → d ≢ n → connection_in d after ≡ connection_in d connections) → ((c : ℕ) → n ≤ c → is_some (connection_in c connections) ≡ false)
+pub opened_fresh : (connections after : List (ℕ × Connection)) (n : ℕ)
+    → ((d : ℕ) → d ≢ n → connection_in d after ≡ connection_in d connections)
+    → ((c : ℕ) → n ≤ c → is_some (connection_in c connections) ≡ false)
     → (c : ℕ) → n + 1 ≤ c → is_some (connection_in c after) ≡ false
-opened_fresh connections after n same fresh c above = ap is_some (same c (λ e. absurd (omega (arith, e, above)))) ∙ fresh c (omega (arith, above))
+opened_fresh connections after n same fresh c above = ap is_some (same c (λ e. absurd (omega (arith, e, above))))
+    ∙ fresh c (omega (arith, above))
 
 -- an event leaves what its connection waits for
 pub hears_waits : (event : Event) (connection : Connection) → (hears event connection).waits ≡ connection.waits
@@ -177,14 +195,16 @@ ready_after event connection ready = sym (hears_waits event connection) ∙ read
 -- a connection that closes waits for nothing
 kept_waits : (t : ℕ) (connection : Connection) → may_wait_on t (kept connection) ≡ may_wait t connection.waits
 kept_waits t connection =
-    elim (is_done connection) as (λ b. is_done connection ≡ b → may_wait_on t (if b then None else Some connection) ≡ may_wait t connection.waits) [
+    elim (is_done connection) as (λ b. is_done connection ≡ b → may_wait_on t (if b then None else Some connection) ≡
+        may_wait t connection.waits) [
       | true ↦ λ done. sym (ap (may_wait t) (None_from_is_none connection.waits (and_parts _ _ (and_parts _ _ done).0).0))
       | false ↦ λ open_still. refl
     ] refl
 
 -- a request that is taken waits in its tenant's queue alone
 joins_seats : (c t : ℕ) (place : Option ℕ) (request : RequestMessage) (queue : Queue) → count_from c queue ≡ 0
-    → (connection : Connection) → connection.waits ≡ None → count_from c (queue ++ entering_of place c t request) ≤ may_wait t (connection_with place request.close connection).waits
+    → (connection : Connection) → connection.waits ≡ None → count_from c (queue ++ entering_of place c t request) ≤ may_wait t
+        (connection_with place request.close connection).waits
 joins_seats c t None request queue none connection free = let same = ap (count_from c) (append-nil queue) in omega (arith, none, same)
 joins_seats c t (Some u) request queue none connection free =
     elim (u == t) as (λ b. count_from c (queue ++ (if b then record { conn = c; request = request } ∷ [] else [])) ≤ one_if b) [
@@ -195,24 +215,30 @@ joins_seats c t (Some u) request queue none connection free =
       | false ↦ let same = ap (count_from c) (append-nil queue) in omega (arith, none, same)
     ]
 
-module _ (keys : List (List ℕ)) (c t : ℕ) (connection : Connection) (queue : Queue) (seated : count_from c queue ≤ may_wait t connection.waits) where
+module _ (keys : List (List ℕ)) (c t : ℕ) (connection : Connection) (queue : Queue)
+    (seated : count_from c queue ≤ may_wait t connection.waits) where
   -- nothing enters
   stays_seated : count_from c (queue ++ []) ≤ may_wait t connection.waits
   stays_seated = subst (λ q. count_from c q ≤ may_wait t connection.waits) (sym (append-nil queue)) seated
 
   -- what is taken, and what waits then
-  taken_ready : (taken : Taken) (stream : Incoming) → connection.waits ≡ None → count_from c (queue ++ entering keys c taken t) ≤ may_wait t (connection_after keys taken (record connection { stream = stream })).waits
+  taken_ready : (taken : Taken) (stream : Incoming) → connection.waits ≡ None → count_from c (queue ++ entering keys c taken t) ≤ may_wait t
+      (connection_after keys taken (record connection { stream = stream })).waits
   taken_ready Nothing stream free = stays_seated
   taken_ready (Whole request) stream free =
       let zero_here : may_wait t connection.waits ≡ 0 = ap (may_wait t) free in
-      joins_seats c t (tenant_of keys request.key) request queue (omega (arith, seated, zero_here)) (record connection { stream = stream }) free
+      joins_seats c t (tenant_of keys request.key) request queue (omega (arith, seated, zero_here))
+          (record connection { stream = stream }) free
   taken_ready (Refusal fault) stream free = stays_seated
   taken_ready (Lost close) stream free = stays_seated
 
-  taken_seats : (taken : Taken) (stream : Incoming) → IsTaken connection taken stream → count_from c (queue ++ entering keys c taken t) ≤ may_wait t (connection_after keys taken (record connection { stream = stream })).waits
+  taken_seats : (taken : Taken) (stream : Incoming) → IsTaken connection taken stream → count_from c (queue ++ entering keys c taken t) ≤
+      may_wait t (connection_after keys taken (record connection { stream = stream })).waits
   taken_seats taken stream stands =
-      let Q : Taken → Type 0 = λ k. count_from c (queue ++ entering keys c k t) ≤ may_wait t (connection_after keys k (record connection { stream = stream })).waits in
-      let P : Bool → Type 0 = λ b. is_ready connection ≡ b → MatchBool b (TakesOff connection.stream taken stream) ((taken ≡ Nothing) × (stream ≡ connection.stream)) → Q taken in
+      let Q : Taken → Type 0 = λ k. count_from c (queue ++ entering keys c k t) ≤ may_wait t
+          (connection_after keys k (record connection { stream = stream })).waits in
+      let P : Bool → Type 0 = λ b. is_ready connection ≡ b → MatchBool b (TakesOff connection.stream taken stream) ((taken ≡ Nothing)
+          × (stream ≡ connection.stream)) → Q taken in
       elim (is_ready connection) as P [
         | true ↦ λ ready off. taken_ready taken stream (ready_waits connection ready)
         | false ↦ λ busy off. subst Q (sym off.0) stays_seated
@@ -231,7 +257,8 @@ module _ (keys : List (List ℕ)) (event : Event) (c : ℕ) (told : Told) (old n
       let heard : Connection = hears event h.connection in
       let after : Connection = connection_after keys taken (record heard { stream = h.takes.stream }) in
       let before : count_from c from.0 ≤ may_wait t heard.waits =
-      subst (λ w. count_from c from.0 ≤ may_wait t w) (sym (hears_waits event h.connection)) (subst (λ o. count_from c from.0 ≤ may_wait_on t o) h.was_open (seated t c from.0 from.1)) in
+      subst (λ w. count_from c from.0 ≤ may_wait t w) (sym (hears_waits event h.connection))
+          (subst (λ o. count_from c from.0 ≤ may_wait_on t o) h.was_open (seated t c from.0 from.1)) in
       let then_seated : count_from c (from.0 ++ entering keys c taken t) ≤ may_wait t after.waits =
       taken_seats keys c t heard from.0 before taken h.takes.stream h.takes.stands in
       let seats : may_wait_on t (connection_in c new) ≡ may_wait t after.waits =
@@ -243,10 +270,12 @@ module _ (keys : List (List ℕ)) (event : Event) (c : ℕ) (told : Told) (old n
       let same_count : count_from d queue ≡ count_from d from.0 =
       ap (count_from d) (sym from.2) ∙ ap length (queued_requests_after keys d c taken t from.0 (λ e. ne (sym e))) in
       let connection : connection_in d old ≡ connection_in d new = sym (h.others d ne) in
-      subst (λ n. n ≤ may_wait_on t (connection_in d new)) (sym same_count) (subst (λ o. count_from d from.0 ≤ may_wait_on t o) connection (seated t d from.0 from.1)))
+      subst (λ n. n ≤ may_wait_on t (connection_in d new)) (sym same_count) (subst (λ o. count_from d from.0 ≤ may_wait_on t o) connection
+          (seated t d from.0 from.1)))
       (cases_eq d c)
 
-  pub heard_fresh : (next : ℕ) → ((d : ℕ) → next ≤ d → is_some (connection_in d old) ≡ false) → (d : ℕ) → next ≤ d → is_some (connection_in d new) ≡ false
+  pub heard_fresh : (next : ℕ) → ((d : ℕ) → next ≤ d → is_some (connection_in d old) ≡ false) → (d : ℕ) → next ≤ d
+      → is_some (connection_in d new) ≡ false
   heard_fresh next fresh d above =
       ap is_some ((all.1).others d apart) ∙ fresh d above
     where
@@ -270,14 +299,17 @@ may_wait_on-one : (t : ℕ) (o : Option Connection) → may_wait_on t o ≤ 1
 may_wait_on-one t None = omega arith
 may_wait_on-one t (Some connection) = may_wait-one t connection.waits
 
-is_some-answered : (reply : ReplyMessage) (o : Option Connection) → is_some o ≡ false → is_some (option_and_then kept (option_map (answered reply) o)) ≡ false
+is_some-answered : (reply : ReplyMessage) (o : Option Connection) → is_some o ≡ false
+    → is_some (option_and_then kept (option_map (answered reply) o)) ≡ false
 is_some-answered reply None e = refl
 is_some-answered reply (Some connection) e = absurd (false≢true (sym e))
 
 -- a turn that answers the first request of a tenant
-module _ (t : ℕ) (queues : List Queue) (queue after : Queue) (first : QueuedRequest) (reply : ReplyMessage) (connections new : List (ℕ × Connection))
+module _ (t : ℕ) (queues : List Queue) (queue after : Queue) (first : QueuedRequest) (reply : ReplyMessage)
+    (connections new : List (ℕ × Connection))
     (within : t < length queues) (was : slice_get queues t ≡ Some queue) (waited : queue ≡ first ∷ after)
-    (connection_is : connection_in first.conn new ≡ option_and_then kept (option_map (answered reply) (connection_in first.conn connections)))
+    (connection_is : connection_in first.conn new ≡ option_and_then kept
+        (option_map (answered reply) (connection_in first.conn connections)))
     (others_are : (d : ℕ) → d ≢ first.conn → connection_in d new ≡ connection_in d connections) where
   module _ (seated : AreSeated queues connections) where
     its_seat : 1 + count_from first.conn after ≤ may_wait_on t (connection_in first.conn connections)
@@ -291,7 +323,8 @@ module _ (t : ℕ) (queues : List Queue) (queue after : Queue) (first : QueuedRe
     none_left u s is =
         ⊎_elim
         (λ same.
-        let mine : after ≡ s = some_same (sym (slice_get-set_same queues t after within) ∙ ap (slice_get (set queues t after)) (sym same) ∙ is) in
+        let mine : after ≡ s = some_same (sym (slice_get-set_same queues t after within)
+            ∙ ap (slice_get (set queues t after)) (sym same) ∙ is) in
         let one = may_wait_on-one t (connection_in first.conn connections) in
         let seat = its_seat in
         ap (λ q. count_from first.conn q) (sym mine) ∙ omega (arith, one, seat))
@@ -303,15 +336,18 @@ module _ (t : ℕ) (queues : List Queue) (queue after : Queue) (first : QueuedRe
         (cases_eq u t)
 
     -- those of another connection are at most as many as before
-    no_more : (u d : ℕ) (s : Queue) → slice_get (set queues t after) u ≡ Some s → count_from d s ≤ may_wait_on u (connection_in d connections)
+    no_more : (u d : ℕ) (s : Queue) → slice_get (set queues t after) u ≡ Some s
+        → count_from d s ≤ may_wait_on u (connection_in d connections)
     no_more u d s is =
         ⊎_elim
         (λ same.
-        let mine : after ≡ s = some_same (sym (slice_get-set_same queues t after within) ∙ ap (slice_get (set queues t after)) (sym same) ∙ is) in
+        let mine : after ≡ s = some_same (sym (slice_get-set_same queues t after within)
+            ∙ ap (slice_get (set queues t after)) (sym same) ∙ is) in
         let all = seated t d queue was in
         let step = ap (count_from d) waited ∙ count-step d first after in
         let fewer : count_from d after ≤ may_wait_on t (connection_in d connections) = omega (arith, all, step) in
-        subst (λ k. count_from d s ≤ may_wait_on k (connection_in d connections)) (sym same) (subst (λ q. count_from d q ≤ may_wait_on t (connection_in d connections)) mine fewer))
+        subst (λ k. count_from d s ≤ may_wait_on k (connection_in d connections)) (sym same)
+            (subst (λ q. count_from d q ≤ may_wait_on t (connection_in d connections)) mine fewer))
         (λ ne. seated u d s (sym (slice_get-set_other queues t u after ne) ∙ is))
         (cases_eq u t)
 
@@ -322,28 +358,34 @@ module _ (t : ℕ) (queues : List Queue) (queue after : Queue) (first : QueuedRe
         (λ ne. subst (λ o. count_from d s ≤ may_wait_on u o) (sym (others_are d ne)) (no_more u d s is))
         (cases_eq d first.conn)
 
-  pub answered_fresh : (next : ℕ) → ((d : ℕ) → next ≤ d → is_some (connection_in d connections) ≡ false) → (d : ℕ) → next ≤ d → is_some (connection_in d new) ≡ false
+  pub answered_fresh : (next : ℕ) → ((d : ℕ) → next ≤ d → is_some (connection_in d connections) ≡ false) → (d : ℕ) → next ≤ d
+      → is_some (connection_in d new) ≡ false
   answered_fresh next fresh d above =
       ⊎_elim
-      (λ same. ap (λ k. is_some (connection_in k new)) same ∙ ap is_some connection_is ∙ is_some-answered reply (connection_in first.conn connections) (fresh first.conn (subst (λ k. next ≤ k) same above)))
+      (λ same. ap (λ k. is_some (connection_in k new)) same ∙ ap is_some connection_is
+          ∙ is_some-answered reply (connection_in first.conn connections) (fresh first.conn (subst (λ k. next ≤ k) same above)))
       (λ ne. ap is_some (others_are d ne) ∙ fresh d above)
       (cases_eq d first.conn)
 
 -- the same queues
-pub same_seats : (queues after : List Queue) (connections : List (ℕ × Connection)) → ((u : ℕ) → slice_get after u ≡ slice_get queues u) → AreSeated queues connections → AreSeated after connections
+pub same_seats : (queues after : List Queue) (connections : List (ℕ × Connection)) → ((u : ℕ) → slice_get after u ≡ slice_get queues u)
+    → AreSeated queues connections → AreSeated after connections
 same_seats queues after connections same seated = λ t c queue was. seated t c queue (sym (same t) ∙ was)
 
 -- an open connection that waits for nothing leaves a place in each queue
-pub open_places : (queues lent : List Queue) (es : List (ℕ × Connection)) (c : ℕ) (P : Connection → Type 0) → lent ≡ queues → length es ≤ 16 → AreSeated queues es → OpenAnd (connection_in c es) P
+pub open_places : (queues lent : List Queue) (es : List (ℕ × Connection)) (c : ℕ) (P : Connection → Type 0) → lent ≡ queues → length es ≤ 16
+    → AreSeated queues es → OpenAnd (connection_in c es) P
     → OpenAnd (connection_in c es) (λ connection. connection.waits ≡ None → All HasPlace lent)
 open_places queues lent es c P same few seated is_open =
-    elim (connection_in c es) as (λ o. connection_in c es ≡ o → OpenAnd o P → OpenAnd o (λ connection. connection.waits ≡ None → All HasPlace lent)) [
+    elim (connection_in c es) as (λ o. connection_in c es ≡ o → OpenAnd o P
+        → OpenAnd o (λ connection. connection.waits ≡ None → All HasPlace lent)) [
       | None ↦ λ at shut. shut
       | Some connection ↦ λ at fits none. subst (λ ss. All HasPlace ss) (sym same) (places_left queues es c connection few seated at none)
     ] refl is_open
 
 -- one more connection at most
-pub one_more : {A E : Type 0} (r : Result (Option A) E) (n m : ℕ) → is_err r ≡ false → IfOk r (λ old. n ≡ m + (if is_some old then 0 else 1)) → n ≤ m + 1
+pub one_more : {A E : Type 0} (r : Result (Option A) E) (n m : ℕ) → is_err r ≡ false
+    → IfOk r (λ old. n ≡ m + (if is_some old then 0 else 1)) → n ≤ m + 1
 one_more (Ok (Some x)) n m fine h = omega (arith, h)
 one_more (Ok None) n m fine h = omega (arith, h)
 one_more (Err e) n m fine h = absurd (cc)

@@ -38,7 +38,8 @@ none_entering keys c d u (Refusal fault) apart = refl
 none_entering keys c d u (Lost close) apart = refl
 
 -- the requests of a connection after what another took
-pub queued_requests_after : (keys : List (List ℕ)) (c d : ℕ) (taken : Taken) (u : ℕ) (queue : Queue) → d ≢ c → queued_requests_of c (queue ++ entering keys d taken u) ≡ queued_requests_of c queue
+pub queued_requests_after : (keys : List (List ℕ)) (c d : ℕ) (taken : Taken) (u : ℕ) (queue : Queue) → d ≢ c
+    → queued_requests_of c (queue ++ entering keys d taken u) ≡ queued_requests_of c queue
 queued_requests_after keys c d taken u queue apart =
     filter-append (λ (w : QueuedRequest). w.conn == c) queue (entering keys d taken u)
     ∙ ap (λ ws. queued_requests_of c queue ++ ws) (none_entering keys c d u taken apart)
@@ -50,7 +51,8 @@ pub queued_requests_join : (c tenant u : ℕ) (request : RequestMessage) (queue 
 queued_requests_join c tenant u request queue none =
     filter-append (λ (w : QueuedRequest). w.conn == c) queue (entering_of (Some tenant) c u request)
     ∙ ap (λ ws. ws ++ queued_requests_of c (entering_of (Some tenant) c u request)) none
-    ∙ elim (tenant == u) as (λ b. queued_requests_of c (if b then queued_request c request ∷ [] else []) ≡ (if b then queued_request c request ∷ [] else [])) [
+    ∙ elim (tenant == u) as (λ b. queued_requests_of c (if b then queued_request c request ∷ [] else []) ≡
+        (if b then queued_request c request ∷ [] else [])) [
       | true ↦ ap (λ b. if b then queued_request c request ∷ [] else []) (eq-eqb c c refl)
       | false ↦ refl
     ]

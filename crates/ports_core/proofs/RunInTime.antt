@@ -1,5 +1,6 @@
 -- The bound on turns over whole runs of fewer than 2^64 events: no count of turns reaches its greatest number.
-use Rattle.std.proofs.Common.{◌≡◌, ◌<◌, ◌≤◌, ◌+◌, ◌^◌, ◌==◌, ℕ, Bool, true, false, List, [], ◌∷◌, ◌++◌, length, Option, Some, None, ap, ◌∙◌, inl, inr, arith}
+use Rattle.std.proofs.Common.{◌≡◌, ◌<◌, ◌≤◌, ◌+◌, ◌^◌, ◌==◌, ℕ, Bool, true, false, List, [], ◌∷◌, ◌++◌, length, Option, Some, None, ap, ◌∙◌}
+use Rattle.std.proofs.Common.{inl, inr, arith}
 use Rattle.std.specs.Prelude.{if◌then◌else◌, option_and_then}
 use Rattle.std.proofs.lemmas.List.{length-append}
 use Rattle.turn_amounts.specs.declared.spent.Spent.{Spent}
@@ -36,7 +37,8 @@ had_once t event told old mid (inl h) =
     omega (arith, same)
 had_once t event told old mid (inr h) =
     let after = option_and_then first_of (queue_at t old) in
-    let is : turns_had t mid ≡ (had_by (job_after_turn after told (job_at t old))).turns = ap (λ (job : Option TenantJob). (had_by job).turns) h.0.job.job_is in
+    let is : turns_had t mid ≡ (had_by (job_after_turn after told (job_at t old))).turns =
+        ap (λ (job : Option TenantJob). (had_by job).turns) h.0.job.job_is in
     let few = had_after after told (job_at t old) in
     omega (arith, is, few)
 
@@ -70,7 +72,8 @@ own_few t (event ∷ events) =
     let rest = own_few t events in
     omega (arith, one, rest)
 
-low : (had none own before after more all : ℕ) → had ≤ none + before → none ≡ 0 → own ≤ after → all ≡ before + after + more → all < 2 ^ 64 → had + own < 2 ^ 64
+low : (had none own before after more all : ℕ) → had ≤ none + before → none ≡ 0 → own ≤ after → all ≡ before + after + more
+    → all < 2 ^ 64 → had + own < 2 ^ 64
 low had none own before after more all few zero mine whole fits = omega (arith, few, zero, mine, whole, fits)
 
 pub run_in_time : EachRunIsToldInTime
@@ -80,5 +83,6 @@ run_in_time keys sizes events fits t world first rest before after more steps_be
     let none : turns_had t (new_state keys sizes) ≡ 0 = ap (λ (job : Option TenantJob). (had_by job).turns) (none_yet keys sizes t) in
     told_in_time t world first rest after steps_after mid later waits
     (begun_left keys sizes before steps_before mid t world first rest begun waits) goes_on silent
-    (low (turns_had t mid) (turns_had t (new_state keys sizes)) (own_turns t after) (length before) (length after) (length more) (length events)
+    (low (turns_had t mid) (turns_had t (new_state keys sizes)) (own_turns t after) (length before) (length after)
+        (length more) (length events)
     (had_few t before steps_before (new_state keys sizes) mid begun) none (own_few t after) whole fits)

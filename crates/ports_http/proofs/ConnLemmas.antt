@@ -1,5 +1,6 @@
 -- The fields of a `Conn` and what is seen of them.
-use Rattle.std.proofs.Common.{◌≡◌, ℕ, ◌+◌, ◌-◌, ◌≤◌, Bool, true, false, MatchBool, if◌then◌else◌, List, ◌++◌, length, take, drop, refl, ap, subst, inl, inr, nat_lt, ◌∙◌, arith, length-append, Vec, vec_len, vec_capacity}
+use Rattle.std.proofs.Common.{◌≡◌, ℕ, ◌+◌, ◌-◌, ◌≤◌, Bool, true, false, MatchBool, if◌then◌else◌, List, ◌++◌, length, take, drop, refl, ap}
+use Rattle.std.proofs.Common.{subst, inl, inr, nat_lt, ◌∙◌, arith, length-append, Vec, vec_len, vec_capacity}
 use Rattle.std.proofs.lemmas.List.{length-drop, drop-append-le, take_rest}
 use Rattle.std.specs.declared.alloc.Global.{Global}
 use Rattle.ports_http.specs.declared.conn.Conn.TheInside.{Inside}

@@ -1,5 +1,6 @@
 -- A stream that is decoded one request after another.
-use Rattle.std.proofs.Common.{◌≡◌, ◌≢◌, ℕ, zero, suc, ◌==◌, ◌+◌, ◌<◌, Bool, true, false, if◌then◌else◌, MatchBool, List, [], ◌∷◌, ◌++◌, length, take, flat_map, get_or, refl, ap, sym, subst, arith, length-append, append-nil, Some, Result, Ok, Err}
+use Rattle.std.proofs.Common.{◌≡◌, ◌≢◌, ℕ, zero, suc, ◌==◌, ◌+◌, ◌<◌, Bool, true, false, if◌then◌else◌, MatchBool, List, [], ◌∷◌, ◌++◌}
+use Rattle.std.proofs.Common.{length, take, flat_map, get_or, refl, ap, sym, subst, arith, length-append, append-nil, Some, Result, Ok, Err}
 use Rattle.std.proofs.lemmas.List.{take_more}
 use Rattle.std.proofs.lemmas.Grind.{flat_map-append}
 use Rattle.httparse.specs.Grammar.{RequestHead, print_request}
@@ -22,7 +23,8 @@ pub request_takes : (stream : List ℕ) (request : RequestMessage) (rest : List 
     → length rest < length stream
 request_takes stream request rest at =
     let whole = ap length at.stands.reads.1 in
-    omega (arith, whole, head_has_bytes at.head, length-append (print_request at.head) (request.body ++ rest), length-append request.body rest)
+    omega (arith, whole, head_has_bytes at.head, length-append (print_request at.head) (request.body ++ rest),
+        length-append request.body rest)
 
 -- the bytes unread, and one where the stream isn't over
 abbrev pub left_of : Incoming → ℕ

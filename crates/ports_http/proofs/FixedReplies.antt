@@ -2,7 +2,8 @@
 use Rattle.std.proofs.Common.{Bool, true, false, lit≤}
 use Rattle.std.specs.Fmt.{digits}
 use Rattle.ports_http.specs.declared.fault.HeadFault.{HeadFault}
-use Rattle.ports_http.specs.declared.fault.HeadFault.TheVariants.{Malformed, HeadTooLarge, UnknownMethod, TransferEncoding, HostCount, ContentLength, LengthRequired, BodyTooLarge}
+use Rattle.ports_http.specs.declared.fault.HeadFault.TheVariants.{Malformed, HeadTooLarge, UnknownMethod, TransferEncoding, HostCount}
+use Rattle.ports_http.specs.declared.fault.HeadFault.TheVariants.{ContentLength, LengthRequired, BodyTooLarge}
 use Rattle.ports_http.specs.Limits.{fixed_limit}
 use Rattle.ports_http.specs.Replies.{reply_text, status_text, IsFixed, unknown_key, store_failed, fault_reply}
 

@@ -1,11 +1,13 @@
 -- Heads that begin with as many field lines as they may have.
-use Rattle.std.proofs.Common.{◌≡◌, ◌≢◌, ℕ, ◌+◌, ◌-◌, ◌<◌, ◌≤◌, Bool, true, false, not, ◌==◌, zero, suc, List, [], ◌∷◌, ◌++◌, length, take, drop, slice_index, refl, ap, sym, ◌∙◌, subst, arith, length-append, append_assoc, append-nil}
+use Rattle.std.proofs.Common.{◌≡◌, ◌≢◌, ℕ, ◌+◌, ◌-◌, ◌<◌, ◌≤◌, Bool, true, false, not, ◌==◌, zero, suc, List, [], ◌∷◌, ◌++◌, length, take}
+use Rattle.std.proofs.Common.{drop, slice_index, refl, ap, sym, ◌∙◌, subst, arith, length-append, append_assoc, append-nil}
 use Rattle.std.specs.List.{flat_map}
 use Rattle.std.proofs.Math.Seq.{take-append_seam, drop-append_seam, take-suc, drop-cons, drop-length}
 use Rattle.std.proofs.lemmas.List.{length-take-le, length-map, take-append-drop}
 use Rattle.std.proofs.lemmas.List.Elements.{All-head, All-tail}
 use Rattle.httparse.specs.Ascii.{line_feed}
-use Rattle.httparse.specs.Grammar.{AllPass, LineEnd, lf, crlf, print_blank, print_version, print_end, print_field, print_section, Field, RequestHead, IsRequestHead, print_request, ReadsRequest}
+use Rattle.httparse.specs.Grammar.{AllPass, LineEnd, lf, crlf, print_blank, print_version, print_end, print_field, print_section, Field}
+use Rattle.httparse.specs.Grammar.{RequestHead, IsRequestHead, print_request, ReadsRequest}
 use Rattle.httparse.specs.Pieces.{Stops, is_newline, RequestStart, Section}
 use Rattle.httparse.proofs.PieceLemmas.{Stops_token, RequestStart_deterministic, Section_skip, newline_not_stopped}
 use Rattle.httparse.proofs.GrammarLemmas.{cons-append, print_request-append, request_tree, request_pieces}
@@ -96,7 +98,8 @@ one_more_overflows bytes more h rest one reads =
     let tail = one.line ++ more in
     let here : bytes ++ more ≡ start_on full (lines_of full ++ tail) =
     ap (λ (t : List ℕ). t ++ more) one.cut ∙ append_assoc one.before (10 ∷ one.line) more
-    ∙ sym (append_assoc one.before (10 ∷ []) tail) ∙ ap (λ (t : List ℕ). t ++ tail) before ∙ sym (start_regroup full (lines_of full) tail) in
+    ∙ sym (append_assoc one.before (10 ∷ []) tail) ∙ ap (λ (t : List ℕ). t ++ tail) before
+    ∙ sym (start_regroup full (lines_of full) tail) in
     let pieces = request_pieces (bytes ++ more) h rest reads in
     let start = subst (λ (t : List ℕ). RequestStart (request_tree full).0 t (lines_of full ++ tail)) (sym here)
     (start_comes full (lines_of full ++ tail) one.full.reads.0) in
@@ -196,7 +199,8 @@ begins_when bytes (suc k) some inside feed none other full =
     let is = subst (λ (n : ℕ). slice_index bytes n ≡ line_feed) (one_before k) feed in
     let here : k < length bytes = omega arith in
     let line = drop-cons bytes (suc k) 0 inside in
-    let first = All-head (λ b. not (b == line_feed) ≡ true) (slice_index bytes (suc k)) (drop (suc (suc k)) bytes) (subst NoFeed line none) in
+    let first = All-head (λ b. not (b == line_feed) ≡ true) (slice_index bytes (suc k)) (drop (suc (suc k)) bytes)
+        (subst NoFeed line none) in
     record {
       before = take k bytes;
       line = drop (suc k) bytes;

@@ -1,5 +1,6 @@
 -- Adding the bytes of one item after another.
-use Rattle.std.proofs.Common.{ℕ, ◌+◌, ◌<◌, List, [], ◌∷◌, ◌++◌, length, take, flat_map, get_or, ap, ◌∙◌, arith, length-append, append_assoc, append-nil, Vec, vec_len, vec_capacity, Result, Ok, Err, IsErr}
+use Rattle.std.proofs.Common.{ℕ, ◌+◌, ◌<◌, List, [], ◌∷◌, ◌++◌, length, take, flat_map, get_or, ap, ◌∙◌, arith, length-append, append_assoc}
+use Rattle.std.proofs.Common.{append-nil, Vec, vec_len, vec_capacity, Result, Ok, Err, IsErr}
 use Rattle.std.proofs.lemmas.List.{take_more}
 use Rattle.std.proofs.lemmas.List.Folds.{length-flat_map-take}
 use Rattle.std.proofs.lemmas.Grind.{flat_map-append}

@@ -1,5 +1,7 @@
 -- Streams that are cut into requests: the proofs of the laws.
-use Rattle.std.proofs.Common.{◌≡◌, ◌≢◌, ◌⊎◌, ℕ, ◌+◌, ◌<◌, ◌≤◌, Bool, true, false, if◌then◌else◌, nat_lt, codes, MatchBool, zero, suc, List, [], ◌∷◌, ◌++◌, length, take, drop, refl, ap, sym, ◌∙◌, subst, arith, inl, inr, length-append, append_assoc, Option, Some, None, Result, Ok, Err}
+use Rattle.std.proofs.Common.{◌≡◌, ◌≢◌, ◌⊎◌, ℕ, ◌+◌, ◌<◌, ◌≤◌, Bool, true, false, if◌then◌else◌, nat_lt, codes, MatchBool, zero, suc, List}
+use Rattle.std.proofs.Common.{[], ◌∷◌, ◌++◌, length, take, drop, refl, ap, sym, ◌∙◌, subst, arith, inl, inr, length-append, append_assoc}
+use Rattle.std.proofs.Common.{Option, Some, None, Result, Ok, Err}
 use Rattle.std.proofs.lemmas.List.{take-append-le, take_all}
 use borrow.Author.Tests.{ltb-false}
 use Rattle.std.proofs.Math.Seq.{take-append_seam, drop-append_seam}
@@ -13,7 +15,8 @@ use Rattle.ports_http.specs.Limits.{head_limit, body_limit, unread_limit}
 use Rattle.ports_http.specs.Messages.{RequestMessage}
 use Rattle.ports_http.specs.Fields.{NamedField, field_values, request_key, ends_connection}
 use Rattle.ports_http.specs.Heads.{◌>>=◌, announced, announces, fields_of, method_named, no_coding, one_host, stated_length, body_length}
-use Rattle.ports_http.specs.Streams.{HeadAt, RequestAt, LacksBody, Refuses, IsTooLarge, HasTooManyLines, IsUnfinished, Waits, End, waiting, refused, closed, EndsAs, Cuts, Begins, LeftOpen}
+use Rattle.ports_http.specs.Streams.{HeadAt, RequestAt, LacksBody, Refuses, IsTooLarge, HasTooManyLines, IsUnfinished, Waits, End, waiting}
+use Rattle.ports_http.specs.Streams.{refused, closed, EndsAs, Cuts, Begins, LeftOpen}
 use Rattle.ports_http.proofs.OneMoreLemmas.{one_more_overflows, one_more_stays}
 use Rattle.ports_http.specs.Laws.{RequestStays, RefusalStays, WaitingHasRoom, OneCutting, RequestsStay, NextRequest, CutsOn, CutsFrom}
 

@@ -1,5 +1,6 @@
 -- Where the first operator of a text begins.
-use Rattle.std.proofs.Common.{◌≡◌, ◌∙◌, sym, ap, refl, ℕ, ◌+◌, ◌<◌, ◌≤◌, Bool, true, false, cond, ◌&&◌, List, [], ◌∷◌, length, drop, get_or, Some, None, arith, eqb, nat_eq, codes, add-one, inl, inr, ◌⊎◌}
+use Rattle.std.proofs.Common.{◌≡◌, ◌∙◌, sym, ap, refl, ℕ, ◌+◌, ◌<◌, ◌≤◌, Bool, true, false, cond, ◌&&◌, List, [], ◌∷◌, length, drop, get_or}
+use Rattle.std.proofs.Common.{Some, None, arith, eqb, nat_eq, codes, add-one, inl, inr, ◌⊎◌}
 use Rattle.std.proofs.lemmas.Bool.{eqb-true, cases_lt}
 use Rattle.std.proofs.lemmas.List.{drop_more, drop_all}
 use Rattle.std.proofs.lemmas.Str.{IsCharBoundary-before_ascii, IsCharBoundary-end}
@@ -9,7 +10,8 @@ use Rattle.std.specs.Str.{IsCharBoundary}
 use Rattle.ports_query.specs.Conditions.{OperatorAt, operator_at, plain_length}
 
 -- where none begins, one goes on
-pub plain_length-on : (byte : ℕ) (rest : List ℕ) → is_some (operator_at (byte ∷ rest)) ≡ false → plain_length (byte ∷ rest) ≡ plain_length rest + 1
+pub plain_length-on : (byte : ℕ) (rest : List ℕ) → is_some (operator_at (byte ∷ rest)) ≡ false
+    → plain_length (byte ∷ rest) ≡ plain_length rest + 1
 unfolding plain_length
 plain_length-on byte rest none = ap (λ begins. cond begins 0 (plain_length rest + 1)) none
 
@@ -22,7 +24,8 @@ unfolding plain_length
 plain_length-end = refl
 
 -- from a place on
-pub from-on : (text : List ℕ) (at : ℕ) → at < length text → is_some (operator_at (drop at text)) ≡ false → plain_length text ≡ at + plain_length (drop at text)
+pub from-on : (text : List ℕ) (at : ℕ) → at < length text → is_some (operator_at (drop at text)) ≡ false
+    → plain_length text ≡ at + plain_length (drop at text)
     → plain_length text ≡ at + 1 + plain_length (drop (at + 1) text)
 from-on text at inside none so_far =
     let rest = drop_more text at 0 inside in
@@ -30,14 +33,17 @@ from-on text at inside none so_far =
     ap plain_length rest ∙ plain_length-on (get_or text at 0) (drop (at + 1) text) (ap (λ t. is_some (operator_at t)) (sym rest) ∙ none) in
     omega arith
 
-pub from-here : (text : List ℕ) (at : ℕ) → at < length text → is_some (operator_at (drop at text)) ≡ true → plain_length text ≡ at + plain_length (drop at text) → at ≡ plain_length text
+pub from-here : (text : List ℕ) (at : ℕ) → at < length text → is_some (operator_at (drop at text)) ≡ true
+    → plain_length text ≡ at + plain_length (drop at text) → at ≡ plain_length text
 from-here text at inside some so_far =
     let rest = drop_more text at 0 inside in
     let none : plain_length (drop at text) ≡ 0 =
-    ap plain_length rest ∙ plain_length-here (get_or text at 0) (drop (at + 1) text) (ap (λ t. is_some (operator_at t)) (sym rest) ∙ some) in
+    ap plain_length rest ∙ plain_length-here (get_or text at 0) (drop (at + 1) text)
+        (ap (λ t. is_some (operator_at t)) (sym rest) ∙ some) in
     omega arith
 
-pub from-end : (text : List ℕ) (at : ℕ) → length text ≤ at → at ≤ length text → plain_length text ≡ at + plain_length (drop at text) → length text ≡ plain_length text
+pub from-end : (text : List ℕ) (at : ℕ) → length text ≤ at → at ≤ length text → plain_length text ≡ at + plain_length (drop at text)
+    → length text ≡ plain_length text
 from-end text at past inside so_far =
     let none : plain_length (drop at text) ≡ 0 = ap plain_length (drop_all at text past) ∙ plain_length-end in
     omega arith
@@ -69,7 +75,8 @@ begins operator text = starts_with nat_eq text operator
 begins_low : (byte : ℕ) (rest : List ℕ) → is_some (operator_at (byte ∷ rest)) ≡ true → byte < 128
 begins_low byte rest some =
     let text = byte ∷ rest in
-    by_tests {X = OperatorAt} (begins (codes "!=") text) (begins (codes ">=") text) (begins (codes "=") text) (begins (codes "~") text) (begins (codes "<") text) _ _ _ _ _ some
+    by_tests {X = OperatorAt} (begins (codes "!=") text) (begins (codes ">=") text) (begins (codes "=") text) (begins (codes "~") text)
+        (begins (codes "<") text) _ _ _ _ _ some
     (λ is. first_byte 33 byte _ is (omega arith))
     (λ is. first_byte 62 byte _ is (omega arith))
     (λ is. first_byte 61 byte _ is (omega arith))
@@ -89,7 +96,8 @@ pub stops_low : (text : List ℕ) → plain_length text < length text → get_or
 stops_low [] inside = absurd (omega (arith, inside))
 stops_low (byte ∷ rest) inside = stops_by byte rest (is_some (operator_at (byte ∷ rest))) refl (stops_low rest) inside
 
-boundary_by : (text : List ℕ) (at : ℕ) → at ≡ plain_length text → at ≤ length text → (at < length text) ⊎ (length text ≤ at) → IsCharBoundary text at
+boundary_by : (text : List ℕ) (at : ℕ) → at ≡ plain_length text → at ≤ length text → (at < length text) ⊎ (length text ≤ at)
+    → IsCharBoundary text at
 boundary_by text at is inside (inl before) = IsCharBoundary-before_ascii text at before (rw is (stops_low text (omega (arith, is, before))))
 boundary_by text at is inside (inr past) = let same : at ≡ length text = omega (arith, inside, past) in rw same (IsCharBoundary-end text)
 

@@ -34,7 +34,8 @@ found_after : (before part behind : List ℕ) → has_part part (before ++ (part
 unfolding has_part
 found_after [] part behind = from_front (part ++ behind) part (begins_with part behind)
 found_after (byte ∷ before) part behind =
-    or_right (starts_with nat_eq (byte ∷ (before ++ (part ++ behind))) part) (has_part part (before ++ (part ++ behind))) (found_after before part behind)
+    or_right (starts_with nat_eq (byte ∷ (before ++ (part ++ behind))) part) (has_part part (before ++ (part ++ behind)))
+        (found_after before part behind)
 
 -- it is found where it is
 pub part_found : (text part : List ℕ) → HasSubslice text part → has_part part text ≡ true
@@ -42,4 +43,5 @@ part_found text part (before, behind, is) = ap (has_part part) is ∙ found_afte
 
 -- an answer that is right both ways
 pub part_answer : (answer : Bool) (text part : List ℕ) → (answer ≡ true) ↔ HasSubslice text part → answer ≡ has_part part text
-part_answer answer text part says = both_ways answer (has_part part text) (λ is. part_found text part (says.0 is)) (λ is. says.1 (part_stands text part is))
+part_answer answer text part says = both_ways answer (has_part part text) (λ is. part_found text part (says.0 is))
+    (λ is. says.1 (part_stands text part is))

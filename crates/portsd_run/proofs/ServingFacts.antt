@@ -10,13 +10,15 @@ use Rattle.portsd_run.specs.declared.command_line.Serving.{Serving}
 use Rattle.portsd_run.specs.ServiceRun.{listen_failure, EndsServing}
 use Rattle.portsd_run.proofs.RunFacts.{Keeps-same}
 
-no_wire : {W : Type 0} (ListensOn : ℕ → W → Type 0) (serving : Serving) (held : Option (List ℕ)) → is_fit serving.config ≡ true → (fault : ListenFault)
+no_wire : {W : Type 0} (ListensOn : ℕ → W → Type 0) (serving : Serving) (held : Option (List ℕ))
+    → is_fit serving.config ≡ true → (fault : ListenFault)
     → EndsServing ListensOn serving held held (listen_failure fault)
 no_wire ListensOn serving held fit faults.Port = (fit, Keeps-same held)
 no_wire ListensOn serving held fit (faults.Memory _) = (fit, inl (Keeps-same held))
 
 -- nothing listens, and that is the failure
-pub not_listening : {W : Type 0} (ListensOn : ℕ → W → Type 0) (serving : Serving) (held : Option (List ℕ)) → is_fit serving.config ≡ true → (begun : Result W ListenFault) (failure : Failure)
+pub not_listening : {W : Type 0} (ListensOn : ℕ → W → Type 0) (serving : Serving) (held : Option (List ℕ)) → is_fit serving.config ≡ true
+    → (begun : Result W ListenFault) (failure : Failure)
     → IsErrAnd begun (λ fault. failure ≡ listen_failure fault) → EndsServing ListensOn serving held held failure
 not_listening ListensOn serving held fit begun failure fails =
     let p = err_from_is_err_and begun fails in

@@ -15,10 +15,13 @@ printable_small (byte ∷ bytes) h = grind (arith, nat_tests, printable_small by
 pub printable-IsUtf8 : (bytes : List ℕ) → list_all is_printable bytes ≡ true → IsUtf8 bytes
 printable-IsUtf8 bytes h = IsUtf8-from_ascii bytes (IsAscii-from_all bytes (printable_small bytes h))
 
-pub at_blank-none : (read : List ℕ → List ℕ → Option EventValue) (text : List ℕ) → position_or_len (λ byte. byte == 32) text ≡ length text → at_blank read text ≡ None
+pub at_blank-none : (read : List ℕ → List ℕ → Option EventValue) (text : List ℕ) → position_or_len (λ byte. byte == 32) text ≡ length text
+    → at_blank read text ≡ None
 at_blank-none read text h = grind (arith, nat_tests)
 
-pub at_blank-some : (read : List ℕ → List ℕ → Option EventValue) (text word rest : List ℕ) → position_or_len (λ byte. byte == 32) text < length text → word ≡ before_first (λ byte. byte == 32) text → rest ≡ after_first (λ byte. byte == 32) text → at_blank read text ≡ read word rest
+pub at_blank-some : (read : List ℕ → List ℕ → Option EventValue) (text word rest : List ℕ) → position_or_len (λ byte. byte == 32) text <
+    length text → word ≡ before_first (λ byte. byte == 32) text → rest ≡ after_first (λ byte. byte == 32) text
+    → at_blank read text ≡ read word rest
 at_blank-some read text word rest h w r = rw (w, r) (grind (arith, nat_tests))
 
 pub event_of-other : (line : List ℕ) → list_all is_printable line ≡ false → event_of line ≡ None

@@ -15,7 +15,8 @@ pub number_of-other : (text : List ℕ) → list_all is_ascii_digit text ≡ fal
 unfolding number_of
 number_of-other text other = grind (arith, nat_tests)
 
-pub number_of-parsed : {E : Type 0} (text : List ℕ) (r : Result ℕ E) → list_all is_ascii_digit text ≡ true → length text ≤ 20 → OkIff r ((0 < length text) × (digits_value 10 text < 2 ^ 64)) (digits_value 10 text) → result_ok r ≡ number_of text
+pub number_of-parsed : {E : Type 0} (text : List ℕ) (r : Result ℕ E) → list_all is_ascii_digit text ≡ true → length text ≤ 20
+    → OkIff r ((0 < length text) × (digits_value 10 text < 2 ^ 64)) (digits_value 10 text) → result_ok r ≡ number_of text
 unfolding number_of
 number_of-parsed text (Ok x) digits short parsed = grind (arith, nat_tests)
 number_of-parsed text (Err e) digits short parsed = grind (arith, nat_tests)

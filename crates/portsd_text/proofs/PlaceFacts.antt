@@ -8,14 +8,16 @@ use Rattle.std.proofs.lemmas.Bool.Decides.{nat_tests}
 pub position-none : (p : ℕ → Bool) (xs : List ℕ) → position p xs ≡ None → length xs ≤ position_or_len p xs
 position-none p xs none = by (nat_lt (position_or_len p xs) (length xs)) refl none
   where
-    by : (b : Bool) → nat_lt (position_or_len p xs) (length xs) ≡ b → cond b (Some (position_or_len p xs)) None ≡ None → length xs ≤ position_or_len p xs
+    by : (b : Bool) → nat_lt (position_or_len p xs) (length xs) ≡ b → cond b (Some (position_or_len p xs)) None ≡ None
+        → length xs ≤ position_or_len p xs
     by true t e = absurd (cc)
     by false t e = grind (arith, nat_tests)
 
 pub position-some : (p : ℕ → Bool) (xs : List ℕ) (at : ℕ) → position p xs ≡ Some at → (at < length xs) × (position_or_len p xs ≡ at)
 position-some p xs at found = by (nat_lt (position_or_len p xs) (length xs)) refl found
   where
-    by : (b : Bool) → nat_lt (position_or_len p xs) (length xs) ≡ b → cond b (Some (position_or_len p xs)) None ≡ Some at → (at < length xs) × (position_or_len p xs ≡ at)
+    by : (b : Bool) → nat_lt (position_or_len p xs) (length xs) ≡ b → cond b (Some (position_or_len p xs)) None ≡ Some at → (at < length xs)
+        × (position_or_len p xs ≡ at)
     by true t e =
         let place : position_or_len p xs ≡ at = cc in
         let within : position_or_len p xs < length xs = grind (arith, nat_tests) in

@@ -1,5 +1,6 @@
 -- When files agree with what was asked of others.
-use Rattle.std.proofs.Common.{◌≡◌, ◌∙◌, ap, subst, sym, refl, Result, Ok, Err, OnOk, OnErr, ℕ, ◌+◌, Bool, true, false, List, [], ◌∷◌, ◌++◌, Option, Some, None}
+use Rattle.std.proofs.Common.{◌≡◌, ◌∙◌, ap, subst, sym, refl, Result, Ok, Err, OnOk, OnErr, ℕ, ◌+◌, Bool, true, false, List, [], ◌∷◌, ◌++◌}
+use Rattle.std.proofs.Common.{Option, Some, None}
 use Rattle.std.specs.Prelude.{if◌then◌else◌}
 use Rattle.std.specs.FinMap.{get, contains_key}
 use Rattle.std.proofs.lemmas.Bool.{false≢true}
@@ -32,7 +33,8 @@ Agrees-agreement files [] agrees = tt
 Agrees-agreement files (question ∷ questions) agrees = by (has_reply files question) refl (Agrees-agreement files questions) agrees
   where
     by : (same : Bool) → has_reply files question ≡ same → ((agreement files questions).0 ≡ true → Agrees files questions)
-        → (if same then one_more_checked (agreement files questions) else (false, 1)).0 ≡ true → IsReply files question.0 question.1 × Agrees files questions
+        → (if same then one_more_checked (agreement files questions) else (false, 1)).0 ≡ true → IsReply files question.0 question.1
+            × Agrees files questions
     by true same rest agrees = (reply_is files question same, rest agrees)
     by false same rest agrees = absurd (false≢true agrees)
 
@@ -58,24 +60,30 @@ has_reply-answered files name (Presence there) is = presence_has (contains_key f
 has_reply-answered files name (Contents content) is = content_has (get files name) content is
 
 -- one more question that was answered
-pub IsAnswered-more : (files : FileMap) (questions : List Question) (question : Question) → IsAnswered files questions → has_reply files question ≡ true → IsAnswered files (questions ++ question ∷ [])
+pub IsAnswered-more : (files : FileMap) (questions : List Question) (question : Question) → IsAnswered files questions
+    → has_reply files question ≡ true → IsAnswered files (questions ++ question ∷ [])
 IsAnswered-more files [] question answered has = ap (λ (b : Bool). (if b then one_more_checked (true, 0) else (false, 1)).0) has
-IsAnswered-more files (first ∷ questions) question answered has = by (has_reply files first) (λ answered. IsAnswered-more files questions question answered has) answered
+IsAnswered-more files (first ∷ questions) question answered has = by (has_reply files first)
+    (λ answered. IsAnswered-more files questions question answered has) answered
   where
     by : (same : Bool) → ((agreement files questions).0 ≡ true → (agreement files (questions ++ question ∷ [])).0 ≡ true)
-        → (if same then one_more_checked (agreement files questions) else (false, 1)).0 ≡ true → (if same then one_more_checked (agreement files (questions ++ question ∷ [])) else (false, 1)).0 ≡ true
+        → (if same then one_more_checked (agreement files questions) else (false, 1)).0 ≡ true
+        → (if same then one_more_checked (agreement files (questions ++ question ∷ [])) else (false, 1)).0 ≡ true
     by true rest answered = rest answered
     by false rest answered = absurd (false≢true answered)
 
 -- a question that was written down, or not
 pub IsAnswered-added : {A E : Type 0} (result : Result A E) (files : FileMap) (old new : List Question) (question : Question)
-    → IsAnswered files old → has_reply files question ≡ true → OnOk result (new ≡ old ++ question ∷ []) → OnErr result (new ≡ old) → IsAnswered files new
-IsAnswered-added (Ok value) files old new question answered has ok err = subst (IsAnswered files) (sym ok) (IsAnswered-more files old question answered has)
+    → IsAnswered files old → has_reply files question ≡ true → OnOk result (new ≡ old ++ question ∷ [])
+    → OnErr result (new ≡ old) → IsAnswered files new
+IsAnswered-added (Ok value) files old new question answered has ok err = subst (IsAnswered files) (sym ok)
+    (IsAnswered-more files old question answered has)
 IsAnswered-added (Err fault) files old new question answered has ok err = subst (IsAnswered files) (sym err) answered
 
 -- answers that are those of the files are found to be so
 pub agreement-Agrees : (files : FileMap) (questions : List Question) → Agrees files questions → IsAnswered files questions
 agreement-Agrees files [] agrees = refl
 agreement-Agrees files (question ∷ questions) agrees =
-    ap (λ (same : Bool). (if same then one_more_checked (agreement files questions) else (false, 1)).0) (has_reply-answered files question.0 question.1 agrees.0)
+    ap (λ (same : Bool). (if same then one_more_checked (agreement files questions) else (false, 1)).0)
+        (has_reply-answered files question.0 question.1 agrees.0)
     ∙ agreement-Agrees files questions agrees.1

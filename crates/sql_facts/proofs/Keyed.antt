@@ -178,7 +178,8 @@ module _ {E : Type 0} (layout : Layout E) where
               let rest = option_map f (entries_of_rows layout rows key) in
               ap₂ (λ x o. cond (has_key layout key x) (Some x) o) (same r (inl refl)) (go rows (λ s h. same s (inr h)))
               ∙ ap (λ k. cond (bytes_eq key k) (Some (f e)) rest) (keeps e)
-              ∙ elim (has_key layout key e) as (λ b. cond b (Some (f e)) rest ≡ option_map f (cond b (Some e) (entries_of_rows layout rows key)))
+              ∙ elim (has_key layout key e) as (λ b. cond b (Some (f e)) rest ≡ option_map f
+                  (cond b (Some e) (entries_of_rows layout rows key)))
               [ true ↦ refl | false ↦ refl ]
 
     -- ---- a row is added whose key no other has
@@ -246,7 +247,8 @@ pub record ShowsEntries {E : Type 0} (layout : Layout E) (shown : List Term) (pa
     (given : List Row) : Type 0 where
   pub sound : (x : Row) → Has given x → (id : ℤ) × (e : E) × (entries (layout.key e) ≡ Some e) × (q e ≡ true)
       × (x ≡ seen shown params (entry_row layout id e))
-  pub complete : (key : List ℕ) (e : E) → entries key ≡ Some e → q e ≡ true → (id : ℤ) × Has given (seen shown params (entry_row layout id e))
+  pub complete : (key : List ℕ) (e : E) → entries key ≡ Some e → q e ≡ true → (id : ℤ)
+      × Has given (seen shown params (entry_row layout id e))
 
 -- rows with one key
 abbrev pub of_key : List Term
@@ -325,7 +327,8 @@ module _ {E : Type 0} {layout : Layout E} {schema : Schema} {at : ℕ} {table : 
     -- UPDATE changes the entries that pass, and its count says whether there is one
     module _ (tests more : List Term) (q : E → Bool) (f : E → E) (tested : Tests layout params tests q)
         (keeps : (e : E) → layout.key (f e) ≡ layout.key e)
-        (cells : (id : ℤ) (e : E) → cast_row table (drop 1 (seen (col 1 0 ∷ more) params (entry_row layout id e))) ≡ entry_row layout id (f e))
+        (cells : (id : ℤ) (e : E) → cast_row table (drop 1 (seen (col 1 0 ∷ more) params (entry_row layout id e))) ≡
+            entry_row layout id (f e))
         (back : (id : ℤ) (r : Row) → layout.entry (entry_row layout id (f (layout.entry r))) ≡ f (layout.entry r))
         (text : Says schema sql (Update at (those_of table tests (col 1 0 ∷ more)))) where
       abbrev put : Row → Row

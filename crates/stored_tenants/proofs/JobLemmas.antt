@@ -30,10 +30,12 @@ pub job_same : (old new : List Tenant) (u : ℕ) → slice_get new u ≡ slice_g
 job_same old new u same = job_at-is new u ∙ ap job_in_place same ∙ sym (job_at-is old u)
 
 -- no job changes, if one tenant changes and its job doesn't
-pub jobs_kept : (tenants : List Tenant) (t : ℕ) (any tenant : Tenant) → t < length tenants → job_of tenant ≡ job_of (get_or tenants t any) → jobs_of (slice_set tenants t tenant) ≡ jobs_of tenants
+pub jobs_kept : (tenants : List Tenant) (t : ℕ) (any tenant : Tenant) → t < length tenants → job_of tenant ≡ job_of (get_or tenants t any)
+    → jobs_of (slice_set tenants t tenant) ≡ jobs_of tenants
 jobs_kept [] t any tenant within same = absurd omega (arith, within)
 jobs_kept (first ∷ tenants) zero any tenant within same = ap (λ (job : Option TenantJob). job ∷ jobs_of tenants) same
-jobs_kept (first ∷ tenants) (suc t) any tenant within same = ap (λ (jobs : List (Option TenantJob)). job_of first ∷ jobs) (jobs_kept tenants t any tenant (omega (arith, within)) same)
+jobs_kept (first ∷ tenants) (suc t) any tenant within same = ap (λ (jobs : List (Option TenantJob)). job_of first ∷ jobs)
+    (jobs_kept tenants t any tenant (omega (arith, within)) same)
 
 head_same : {A : Type 0} {x y : A} {xs ys : List A} → x ∷ xs ≡ y ∷ ys → x ≡ y
 head_same e = cc
@@ -45,4 +47,5 @@ tail_same e = cc
 pub no_jobs : (tenants : List Tenant) (tenant : Tenant) → HaveNoJob tenants → job_of tenant ≡ None → HaveNoJob (tenants ++ tenant ∷ [])
 no_jobs [] tenant none no_job = ap (λ (job : Option TenantJob). job ∷ []) no_job
 no_jobs (first ∷ tenants) tenant none no_job =
-    ap₂ (λ (job : Option TenantJob) (jobs : List (Option TenantJob)). job ∷ jobs) (head_same none) (no_jobs tenants tenant (tail_same none) no_job)
+    ap₂ (λ (job : Option TenantJob) (jobs : List (Option TenantJob)). job ∷ jobs) (head_same none)
+        (no_jobs tenants tenant (tail_same none) no_job)

@@ -1,5 +1,6 @@
 -- The tenants, after one of them and its world have changed.
-use Rattle.std.proofs.Common.{◌≡◌, ◌≢◌, ◌<◌, ◌∙◌, ℕ, zero, suc, false, cond, inl, inr, List, [], ◌∷◌, ◌++◌, length, take, drop, get_or, Option, None, Some, Result, Ok, Err, OnOk, OnErr, refl, sym, ap, subst, arith, append-nil}
+use Rattle.std.proofs.Common.{◌≡◌, ◌≢◌, ◌<◌, ◌∙◌, ℕ, zero, suc, false, cond, inl, inr, List, [], ◌∷◌, ◌++◌, length, take, drop, get_or}
+use Rattle.std.proofs.Common.{Option, None, Some, Result, Ok, Err, OnOk, OnErr, refl, sym, ap, subst, arith, append-nil}
 use Rattle.std.specs.Prelude.{slice_get, slice_set, ◌==◌, IfSome}
 use Rattle.std.specs.FinMap as finite
 use Rattle.std.specs.Cmp.Lexicographic.{slice_cmp, nat_list_cmp_total}
@@ -38,7 +39,8 @@ get-set_other (first ∷ items) (suc t) zero item other = refl
 get-set_other (first ∷ items) (suc t) (suc u) item other = get-set_other items t u item (λ e. other (ap suc e))
 
 -- a slice of all items was lent, and came back with as many
-pub refill_same : {A : Type 0} (count : ℕ) (old new : List A) → length new ≡ length old → count ≡ length old → take count (new ++ drop (length new) old) ≡ new
+pub refill_same : {A : Type 0} (count : ℕ) (old new : List A) → length new ≡ length old → count ≡ length old
+    → take count (new ++ drop (length new) old) ≡ new
 refill_same count old new same is =
     ap (λ n. take n (new ++ drop (length new) old)) (is ∙ sym same)
     ∙ ap (λ rest. take (length new) (new ++ rest)) (drop_of_length-le old (omega (arith, same)))
@@ -48,11 +50,13 @@ pub some_same : {A : Type 0} {x y : A} → ◌≡◌ {A = Option A} (Some x) (So
 some_same e = cc
 
 -- one tenant changes and is right; so are the others
-pub set_right : (tenants : List Tenant) (t : ℕ) (tenant : Tenant) → t < length tenants → AreRightTenants tenants → IsRightTenant tenant → AreRightTenants (slice_set tenants t tenant)
+pub set_right : (tenants : List Tenant) (t : ℕ) (tenant : Tenant) → t < length tenants → AreRightTenants tenants → IsRightTenant tenant
+    → AreRightTenants (slice_set tenants t tenant)
 set_right tenants t tenant within others right u other there = elim (cases_Bool (u == t)) [
   | inl is ↦
       let same : u ≡ t = grind (arith, nat_tests) in
-      let this : tenant ≡ other = some_same (sym (get-set_same tenants t tenant within) ∙ ap (slice_get (slice_set tenants t tenant)) (sym same) ∙ there) in
+      let this : tenant ≡ other = some_same (sym (get-set_same tenants t tenant within)
+          ∙ ap (slice_get (slice_set tenants t tenant)) (sym same) ∙ there) in
       subst IsRightTenant this right
   | inr not ↦
       let apart : u ≢ t = λ e. absurd grind (arith, nat_tests) in
@@ -60,20 +64,25 @@ set_right tenants t tenant within others right u other there = elim (cases_Bool 
 ]
 
 -- the tenant at a place is right
-pub right_at : (tenants : List Tenant) (t : ℕ) (any : Tenant) → t < length tenants → AreRightTenants tenants → IsRightTenant (get_or tenants t any)
+pub right_at : (tenants : List Tenant) (t : ℕ) (any : Tenant) → t < length tenants → AreRightTenants tenants
+    → IsRightTenant (get_or tenants t any)
 right_at tenants t any within kept = kept t (get_or tenants t any) (slice_get-get_or tenants t any within)
 
 -- one tenant more that is right
-pub added_right : (tenants : List Tenant) (tenant : Tenant) → AreRightTenants tenants → IsRightTenant tenant → AreRightTenants (tenants ++ tenant ∷ [])
+pub added_right : (tenants : List Tenant) (tenant : Tenant) → AreRightTenants tenants → IsRightTenant tenant
+    → AreRightTenants (tenants ++ tenant ∷ [])
 added_right [] tenant kept right zero other there = subst IsRightTenant (some_same there) right
 added_right [] tenant kept right (suc u) other there = absurd cc
 added_right (first ∷ tenants) tenant kept right zero other there = kept 0 other there
-added_right (first ∷ tenants) tenant kept right (suc u) other there = added_right tenants tenant (λ v k is. kept (suc v) k is) right u other there
+added_right (first ∷ tenants) tenant kept right (suc u) other there = added_right tenants tenant
+    (λ v k is. kept (suc v) k is) right u other there
 
 -- over the same world, a keeper that shows the same, with as much begun, keeps the tenant right
 pub limited
-    : (tenant : Tenant) (world : World) (keeper : Keeper (List Entry)) → world ≡ world_of tenant → ShowsSame (keeper_rows stored_by tenant.keeper) (keeper_rows stored_by keeper)
-    → begun_in keeper.progress ≡ begun_in tenant.keeper.progress → (IsKept stored_by (world_of tenant) tenant.keeper → IsKept stored_by (world_of tenant) keeper)
+    : (tenant : Tenant) (world : World) (keeper : Keeper (List Entry)) → world ≡ world_of tenant
+        → ShowsSame (keeper_rows stored_by tenant.keeper) (keeper_rows stored_by keeper)
+    → begun_in keeper.progress ≡ begun_in tenant.keeper.progress
+    → (IsKept stored_by (world_of tenant) tenant.keeper → IsKept stored_by (world_of tenant) keeper)
     → IsRightTenant tenant → IsRightTenant (record tenant { store = world; keeper = keeper })
 limited tenant world keeper same_world rows begun kept is =
     let same : refresh_of stored_by keeper ≡ refresh_of stored_by tenant.keeper = λ i. refresh_at (λ path. rows path i) (begun i) in
@@ -116,7 +125,8 @@ kept_by_put (Ok done) old new name content keeper is same told kept = told new (
 kept_by_put (Err fault) old new name content keeper is same told kept = subst (λ (w : World). IsKept stored_by w keeper) (sym same) kept
 
 -- a tenant without a job is right if its settings are its world's, and its keeper is right about this world
-pub idle_right : (world : World) (settings : Settings) (keeper : Keeper (List Entry)) (job : Option TenantJob) → job ≡ None → settings ≡ world.1 → IsKept stored_by world keeper
+pub idle_right : (world : World) (settings : Settings) (keeper : Keeper (List Entry)) (job : Option TenantJob) → job ≡ None
+    → settings ≡ world.1 → IsKept stored_by world keeper
     → IsRightTenant (record { store = world; settings = settings; keeper = keeper; job = job })
 idle_right world settings keeper job none same kept = record {
   settings = same;
@@ -125,6 +135,7 @@ idle_right world settings keeper job none same kept = record {
 }
 
 -- an upload leaves the settings
-pub settings_of_put : {A E : Type 0} (result : Result A E) (old new : World) (name content : List ℕ) → OnOk result (new ≡ with_file old name content) → OnErr result (new ≡ old) → old.1 ≡ new.1
+pub settings_of_put : {A E : Type 0} (result : Result A E) (old new : World) (name content : List ℕ)
+    → OnOk result (new ≡ with_file old name content) → OnErr result (new ≡ old) → old.1 ≡ new.1
 settings_of_put (Ok done) old new name content is same = sym (ap (λ (w : World). w.1) is)
 settings_of_put (Err fault) old new name content is same = sym (ap (λ (w : World). w.1) same)

@@ -10,7 +10,8 @@ use Rattle.ports_core.specs.declared.keys.Config.{Config}
 use Rattle.stored_tenants.specs.Shared.{sharing_in}
 
 -- a cache that is used is used in the sense of the tenants, since each count is one of 64 bits
-pub IsUsed-cache : (old new : CacheValue) (counts : Counts) → counts ≡ old.counts → counts.parses < 2 ^ 64 → counts.evals < 2 ^ 64 → UsesCache old new
+pub IsUsed-cache : (old new : CacheValue) (counts : Counts) → counts ≡ old.counts → counts.parses < 2 ^ 64
+    → counts.evals < 2 ^ 64 → UsesCache old new
     → IsUsed (sharing_in old) (sharing_in new)
 IsUsed-cache old new counts same parses evals uses = record {
   sizes = ap (λ (s : Sizes). let seen : sharing.Sizes = record { parses = s.parses; evals = s.keys } in seen) uses.sizes;
@@ -34,4 +35,5 @@ unused-new config cache fit is =
     let fits : (is_size config.parses && is_size config.evals) ≡ true = (both _ _ fit).0 in
     let sizes = both _ _ fits in
     ap sharing_in is
-    ∙ ap₂ (λ parses evals. let shared : Sharing = unused (record { parses = parses; evals = evals }) in shared) (at_least_one config.parses sizes.0) (at_least_one config.evals sizes.1)
+    ∙ ap₂ (λ parses evals. let shared : Sharing = unused (record { parses = parses; evals = evals }) in shared)
+        (at_least_one config.parses sizes.0) (at_least_one config.evals sizes.1)

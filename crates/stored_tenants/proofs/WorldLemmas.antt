@@ -1,5 +1,6 @@
 -- The tenants' worlds, after one of them has changed.
-use Rattle.std.proofs.Common.{◌≡◌, ◌≢◌, ◌<◌, ◌≤◌, ◌∙◌, ℕ, List, [], ◌∷◌, ◌++◌, length, get_or, true, false, inl, inr, Option, None, Some, Result, Ok, Err, IfOk, OnErr, refl, sym, ap, ap₂, subst, arith, nat_lt, zero, suc}
+use Rattle.std.proofs.Common.{◌≡◌, ◌≢◌, ◌<◌, ◌≤◌, ◌∙◌, ℕ, List, [], ◌∷◌, ◌++◌, length, get_or, true, false, inl, inr, Option, None, Some}
+use Rattle.std.proofs.Common.{Result, Ok, Err, IfOk, OnErr, refl, sym, ap, ap₂, subst, arith, nat_lt, zero, suc}
 use Rattle.std.specs.Prelude.{slice_get, slice_set, option_map, unwrap_or, MatchBool, IfSome, IfNone, ◌==◌}
 use Rattle.std.proofs.lemmas.Bool.{cases_Bool}
 use Rattle.std.proofs.lemmas.Bool.Decides.{nat_tests}
@@ -50,7 +51,8 @@ world_at-is : (tenants : List Tenant) (t : ℕ) → world_at t tenants ≡ world
 world_at-is tenants t = ap (λ (world : Option World). unwrap_or world opening_world) (slice_get-map world_of tenants t)
 
 -- the world of a tenant that was put at a place
-pub world_set : (tenants : List Tenant) (t : ℕ) (tenant : Tenant) → t < length tenants → world_at t (slice_set tenants t tenant) ≡ world_of tenant
+pub world_set : (tenants : List Tenant) (t : ℕ) (tenant : Tenant) → t < length tenants
+    → world_at t (slice_set tenants t tenant) ≡ world_of tenant
 world_set tenants t tenant within = world_at-is (slice_set tenants t tenant) t ∙ ap world_in_place (get-set_same tenants t tenant within)
 
 -- the world of a tenant that is there
@@ -86,10 +88,12 @@ same_items (x ∷ xs) [] same = absurd (let e = same 0 in cc)
 same_items {A} (x ∷ xs) (y ∷ ys) same = ap₂ (λ (z : A) (zs : List A). z ∷ zs) (some_same (same 0)) (same_items xs ys (λ t. same (suc t)))
 
 -- no world changes, if one tenant changes and its world doesn't
-pub worlds_kept : (tenants : List Tenant) (t : ℕ) (any tenant : Tenant) → t < length tenants → world_of tenant ≡ world_of (get_or tenants t any) → worlds_of (slice_set tenants t tenant) ≡ worlds_of tenants
+pub worlds_kept : (tenants : List Tenant) (t : ℕ) (any tenant : Tenant) → t < length tenants
+    → world_of tenant ≡ world_of (get_or tenants t any) → worlds_of (slice_set tenants t tenant) ≡ worlds_of tenants
 worlds_kept [] t any tenant within same = absurd omega (arith, within)
 worlds_kept (first ∷ tenants) zero any tenant within same = ap (λ (world : World). world ∷ worlds_of tenants) same
-worlds_kept (first ∷ tenants) (suc t) any tenant within same = ap (λ (worlds : List World). world_of first ∷ worlds) (worlds_kept tenants t any tenant (omega (arith, within)) same)
+worlds_kept (first ∷ tenants) (suc t) any tenant within same = ap (λ (worlds : List World). world_of first ∷ worlds)
+    (worlds_kept tenants t any tenant (omega (arith, within)) same)
 
 head_same : {A : Type 0} {x y : A} {xs ys : List A} → x ∷ xs ≡ y ∷ ys → x ≡ y
 head_same e = cc
@@ -98,21 +102,24 @@ tail_same : {A : Type 0} {x y : A} {xs ys : List A} → x ∷ xs ≡ y ∷ ys �
 tail_same e = cc
 
 -- one tenant more with the world with which each begins
-pub opening_added : (tenants : List Tenant) (tenant : Tenant) → HaveOpeningWorlds tenants → world_of tenant ≡ opening_world → HaveOpeningWorlds (tenants ++ tenant ∷ [])
+pub opening_added : (tenants : List Tenant) (tenant : Tenant) → HaveOpeningWorlds tenants → world_of tenant ≡ opening_world
+    → HaveOpeningWorlds (tenants ++ tenant ∷ [])
 opening_added [] tenant all opening = ap (λ (world : World). world ∷ []) opening
 opening_added (first ∷ tenants) tenant all opening =
     ap₂ (λ (world : World) (worlds : List World). world ∷ worlds) (head_same all) (opening_added tenants tenant (tail_same all) opening)
 
 -- ---- what a turn tells
 
-module _ (old new : List Tenant) (t : ℕ) (within : t < length old) (count : length new ≡ length old) (others : (u : ℕ) → u ≢ t → slice_get new u ≡ slice_get old u) where
+module _ (old new : List Tenant) (t : ℕ) (within : t < length old) (count : length new ≡ length old) (others : (u : ℕ) → u ≢ t
+    → slice_get new u ≡ slice_get old u) where
   abbrev was : slice_get (worlds_of old) t ≡ Some (world_at t old)
   was = world_listed old t within
 
   abbrev becomes : slice_get (worlds_of new) t ≡ Some (world_at t new)
   becomes = world_listed new t (omega (arith, within, count))
 
-  pub answers_for : (request : RequestMessage) (reply : ReplyMessage) → AnswersRequest (world_at t old) request reply (world_at t new) → AnswersFor t request reply (worlds_of old) (worlds_of new)
+  pub answers_for : (request : RequestMessage) (reply : ReplyMessage) → AnswersRequest (world_at t old) request reply (world_at t new)
+      → AnswersFor t request reply (worlds_of old) (worlds_of new)
   answers_for request reply answers = record {
     world = world_at t old;
     was = was;
@@ -134,10 +141,13 @@ module _ (old new : List Tenant) (t : ℕ) (within : t < length old) (count : le
 
   charges : (request : RequestMessage) (reply : ReplyMessage) (before spent : Spent)
       → ((world : World) (request : PlainRequest) → ((plain world request).0.status == 503) ≡ false)
-      → plain_answer (world_at t old) request ≡ (reply, world_at t new) → SpendsOnRequest (world_at t old) request (spent_together before spent) → Charges (world_at t old) request reply before spent
+      → plain_answer (world_at t old) request ≡ (reply, world_at t new) → SpendsOnRequest (world_at t old) request
+          (spent_together before spent) → Charges (world_at t old) request reply before spent
   charges request reply before spent never is spends =
-      let fine : is_failure reply.status ≡ false = ap (λ (end : Served). is_failure end.0.status) (sym is) ∙ never (world_at t old) (plain_request_of request) in
-      subst (λ failed. MatchBool failed (spent ≡ no_spending) (SpendsOnRequest (world_at t old) request (spent_together before spent))) (sym fine) spends
+      let fine : is_failure reply.status ≡ false = ap (λ (end : Served). is_failure end.0.status) (sym is)
+          ∙ never (world_at t old) (plain_request_of request) in
+      subst (λ failed. MatchBool failed (spent ≡ no_spending) (SpendsOnRequest (world_at t old) request (spent_together before spent)))
+          (sym fine) spends
 
   -- what was spent with an answer is what is told
   pub work_charges : (request : RequestMessage) (reply : Option Answer) (job : Option TenantJob) (spent : Spent)

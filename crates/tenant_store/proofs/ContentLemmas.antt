@@ -1,5 +1,6 @@
 -- Contents that are kept, as they change.
-use Rattle.std.proofs.Common.{◌≡◌, ◌∙◌, ap, sym, subst, ℕ, Bool, List, [], ◌⊎◌, inl, inr, Some, String, Global, string_bytes, Contains, Result, Ok, Err}
+use Rattle.std.proofs.Common.{◌≡◌, ◌∙◌, ap, sym, subst, ℕ, Bool, List, [], ◌⊎◌, inl, inr, Some, String, Global, string_bytes, Contains}
+use Rattle.std.proofs.Common.{Result, Ok, Err}
 use Rattle.std.proofs.lemmas.Slice.Eq.{bytes_eq-Decides}
 use Rattle.std.specs.FinMap.{get}
 use Rattle.std.specs.Map.{lookup}
@@ -16,7 +17,8 @@ abbrev pub Kept : Type 0
 Kept = List (String Global × List ℕ)
 
 -- where nothing is kept, all that is kept is right
-pub nothing_kept : {cap : ℕ} {files : FileMap} (kept : LruCache (String Global) (List ℕ)) → kept ≡ lru_cache [] cap → AreContents kept.entries files
+pub nothing_kept : {cap : ℕ} {files : FileMap} (kept : LruCache (String Global) (List ℕ)) → kept ≡ lru_cache [] cap
+    → AreContents kept.entries files
 nothing_kept {cap} {files} kept is =
     subst (λ (c : LruCache (String Global) (List ℕ)). AreContents c.entries files) (sym is)
     (record { each = λ name content h. absurd (Contains-nil (name, content) h) })
@@ -40,7 +42,8 @@ module _ (kept : Kept) (files : FileMap) (are : AreContents kept files) where
       (record { each = λ key content h. are.each key content (Contains-promoted (named name) kept (key, content) h) })
 
 -- one more is kept, or nothing has changed
-module _ (old : LruCache (String Global) (List ℕ)) (files : FileMap) (name : String Global) (content : List ℕ) (are : AreContents old.entries files)
+module _ (old : LruCache (String Global) (List ℕ)) (files : FileMap) (name : String Global) (content : List ℕ)
+    (are : AreContents old.entries files)
     (is : get files (string_bytes name) ≡ Some content) where
   of_put : (key : String Global) (value : List ℕ) → Contains old.entries (key, value) ⊎ IsPut string_eq old name content (key, value)
       → get files (string_bytes key) ≡ Some value
@@ -53,6 +56,7 @@ module _ (old : LruCache (String Global) (List ℕ)) (files : FileMap) (name : S
   put_in = record { each = λ key value h. of_put key value (Contains-put_entries string_eq old name content (key, value) h) }
 
   pub put_stay : {X E : Type 0} (result : Result X E) (new : LruCache (String Global) (List ℕ))
-      → OnOk result (new ≡ lru_cache (put_entries string_eq old name content) old.cap) → OnErr result (new ≡ old) → AreContents new.entries files
+      → OnOk result (new ≡ lru_cache (put_entries string_eq old name content) old.cap) → OnErr result (new ≡ old)
+      → AreContents new.entries files
   put_stay (Ok _) new put same = subst (λ (c : LruCache (String Global) (List ℕ)). AreContents c.entries files) (sym put) put_in
   put_stay (Err _) new put same = subst (λ (c : LruCache (String Global) (List ℕ)). AreContents c.entries files) (sym same) are

@@ -21,7 +21,8 @@ use Rattle.sql_facts.proofs.Keyed.{IsMapAt, Makes, cast_null, cast_integer, inse
 use Rattle.sql_facts.proofs.Rows.{mapped_rise}
 use Rattle.sql_facts.proofs.Statements.{updates}
 use Rattle.tenant_store.specs.Holdings.{File, map_of}
-use Rattle.tenant_store.specs.Tables.{IsSettingsRow, IsOneRow, HoldsWorld, IsStoreAtRest, file_layout, file_of, settings_of, file_table, store_schema}
+use Rattle.tenant_store.specs.Tables.{IsSettingsRow, IsOneRow, HoldsWorld, IsStoreAtRest, file_layout, file_of, settings_of, file_table}
+use Rattle.tenant_store.specs.Tables.{store_schema}
 use Rattle.tenant_store.specs.Tables.{world_in_state}
 use Rattle.tenant_store.specs.Tables.{insert_file, update_file, delete_file, update_settings}
 use Rattle.tenant_store.proofs.Fixed.{placed_settings_table, files_site, settings_place, given_columns}
@@ -49,7 +50,8 @@ module _ (name : List ℕ) (old new : State) (kept : IsStoreAtRest old) where
       (λ i. record { files = map file_of (new.now.trees 0); settings = settings_of (get_or (settings i) 0 []) }) kept.path
       (λ i. (own i, (world_in_state old).1))
 
-  pub inserts_file : (c : List ℕ) → finite.get (files_in (world_in_state old)) name ≡ None → Ran insert_file (Text name ∷ Blob c ∷ []) old new
+  pub inserts_file : (c : List ℕ) → finite.get (files_in (world_in_state old)) name ≡ None
+      → Ran insert_file (Text name ∷ Blob c ∷ []) old new
       → HoldsWorld new (with_file (world_in_state old) name c)
   inserts_file c free ran =
       let params = Text name ∷ Blob c ∷ [] in
@@ -115,7 +117,8 @@ module _ (old new : State) (kept : IsStoreAtRest old) (path : List ℕ) (profile
       let is : settings_of (get_or (map f rows) 0 []) ≡ set =
       ap (λ (l : List Row). settings_of (get_or (map f l) 0 [])) one.rows_are
       ∙ ap (λ (p : Profile). record { path = trees_of path; profile = p }) back in
-      holds new (record { files = map file_of (old.now.trees 0); settings = set }) (files_in (world_in_state old), set) (h.settles kept.settled)
+      holds new (record { files = map file_of (old.now.trees 0); settings = set }) (files_in (world_in_state old), set)
+          (h.settles kept.settled)
       (record {
         schema = h.schema_is;
         files = subst (AreFilled file_layout) (sym files) kept.formed.files;

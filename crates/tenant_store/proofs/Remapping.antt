@@ -41,7 +41,8 @@ module _ (name : List ℕ) (change : Option File → Option File) (old new : Lis
       ∙ ap (cond (bytes_eq name q) w) (sym (get-map_of q (map file_of old)))
       ∙ ap (λ b. cond b w (finite.get (map_of (map file_of old)) q)) (bytes_eq-sym name q ∙ sym (is_eq-slice_cmp q name))
     where
-      go : (b : Bool) → bytes_eq name q ≡ b → content (cond b (change (entries_of_rows file_layout old q)) (entries_of_rows file_layout old q))
+      go : (b : Bool) → bytes_eq name q ≡ b
+          → content (cond b (change (entries_of_rows file_layout old q)) (entries_of_rows file_layout old q))
           ≡ cond b w (content (entries_of_rows file_layout old q))
       go true tie = ap (λ k. content (change (entries_of_rows file_layout old k))) (sym ((bytes_eq-Decides name q).0 tie)) ∙ is
       go false apart = refl

@@ -9,7 +9,8 @@ use Rattle.text_graph.specs.TextSearch.{is_among, IsFrom, FindsAll}
 use Rattle.text_graph.proofs.Members.{among_from, among_by_equal}
 
 -- all texts that a search found, put in order
-pub lists_just : (starts : List (List ℕ)) (arrows : List ArrowValue) (P : List ℕ → Type 0) (found texts : List (List ℕ)) → ((text : List ℕ) → IsFrom starts arrows text ↔ P text)
+pub lists_just : (starts : List (List ℕ)) (arrows : List ArrowValue) (P : List ℕ → Type 0) (found texts : List (List ℕ))
+    → ((text : List ℕ) → IsFrom starts arrows text ↔ P text)
     → FindsAll starts arrows found → texts ≡ in_order found → ListsJust P texts
 lists_just starts arrows P found texts means finds is = record {
   in_order = rw is (in_order-sorted found);

@@ -21,13 +21,15 @@ pub record Finds (starts : List (List ℕ)) (arrows : List ArrowValue) (met : Li
   pub named : AreNumbers met numbers (map (text_at met) numbers)
 
 -- the same of the numbers that the code keeps, and its marks are right
-pub record KeepsSearching (starts : List (List ℕ)) (arrows : List ArrowValue) (met : List (List ℕ)) (place : ℕ) (found : Found) : Type 0 where
+pub record KeepsSearching (starts : List (List ℕ)) (arrows : List ArrowValue) (met : List (List ℕ)) (place : ℕ)
+    (found : Found) : Type 0 where
   pub finds : Finds starts arrows met found.numbers.items place
   pub knows : KnowsItsNumbers found
   pub count : length found.known.items ≡ length met
 
 -- numbers of texts that a search found
-finds_these : (starts : List (List ℕ)) (arrows : List ArrowValue) (met : List (List ℕ)) (numbers : List ℕ) (texts : List (List ℕ)) (place : ℕ) → AreNumbers met numbers texts
+finds_these : (starts : List (List ℕ)) (arrows : List ArrowValue) (met : List (List ℕ)) (numbers : List ℕ) (texts : List (List ℕ))
+    (place : ℕ) → AreNumbers met numbers texts
     → Searched starts arrows texts place → Finds starts arrows met numbers place
 finds_these starts arrows met numbers texts place are searched =
     let same = texts-named met numbers texts are in
@@ -36,11 +38,14 @@ finds_these starts arrows met numbers texts place are searched =
       named = subst (AreNumbers met numbers) (sym same) are;
     }
 
-pub finds-begins : (starts : List (List ℕ)) (arrows : List ArrowValue) (met : List (List ℕ)) (first : List ℕ) → AreNumbers met first starts → Finds starts arrows met (numbers_added [] first) 0
+pub finds-begins : (starts : List (List ℕ)) (arrows : List ArrowValue) (met : List (List ℕ)) (first : List ℕ) → AreNumbers met first starts
+    → Finds starts arrows met (numbers_added [] first) 0
 finds-begins starts arrows met first are =
-    finds_these starts arrows met (numbers_added [] first) (all_added [] starts) 0 (all-added met first starts [] [] are refl) (search-begins starts arrows)
+    finds_these starts arrows met (numbers_added [] first) (all_added [] starts) 0 (all-added met first starts [] [] are refl)
+        (search-begins starts arrows)
 
-module _ (starts : List (List ℕ)) (arrows : List ArrowValue) (met : List (List ℕ)) (numbers : List ℕ) (place : ℕ) (so_far : Finds starts arrows met numbers place) where
+module _ (starts : List (List ℕ)) (arrows : List ArrowValue) (met : List (List ℕ)) (numbers : List ℕ) (place : ℕ)
+    (so_far : Finds starts arrows met numbers place) where
   pub number_inside : All (λ number. number < length met) numbers
   number_inside = numbers-inside met numbers (map (text_at met) numbers) so_far.named
 
@@ -55,11 +60,14 @@ module _ (starts : List (List ℕ)) (arrows : List ArrowValue) (met : List (List
   -- where the arrows from a number that was found lead
   pub nexts : (numbered : List NumberedArrow) → AreArrows met numbered arrows → place < length numbers
       → AreNumbers met (next_numbers numbered (get_or numbers place 0)) (next_texts arrows (text_at met (get_or numbers place 0)))
-  nexts numbered are inside = next-numbers met (text_at met (get_or numbers place 0)) (get_or numbers place 0) (named_at inside) numbered arrows are.from are.to
+  nexts numbered are inside = next-numbers met (text_at met (get_or numbers place 0)) (get_or numbers place 0) (named_at inside)
+      numbered arrows are.from are.to
 
-  pub next_inside : (numbered : List NumberedArrow) → AreArrows met numbered arrows → place < length numbers → All (λ number. number < length met) (next_numbers numbered (get_or numbers place 0))
+  pub next_inside : (numbered : List NumberedArrow) → AreArrows met numbered arrows → place < length numbers
+      → All (λ number. number < length met) (next_numbers numbered (get_or numbers place 0))
   next_inside numbered are inside =
-      numbers-inside met (next_numbers numbered (get_or numbers place 0)) (next_texts arrows (text_at met (get_or numbers place 0))) (nexts numbered are inside)
+      numbers-inside met (next_numbers numbered (get_or numbers place 0)) (next_texts arrows (text_at met (get_or numbers place 0)))
+          (nexts numbered are inside)
 
   -- one more number was gone on from
   pub finds-goes_on : (numbered : List NumberedArrow) → AreArrows met numbered arrows → place < length numbers
@@ -68,12 +76,16 @@ module _ (starts : List (List ℕ)) (arrows : List ArrowValue) (met : List (List
       let texts = map (text_at met) numbers in
       let number = get_or numbers place 0 in
       let text = text_at met number in
-      finds_these starts arrows met (numbers_added numbers (next_numbers numbered number)) (all_added texts (next_texts arrows text)) (place + 1)
+      finds_these starts arrows met (numbers_added numbers (next_numbers numbered number))
+          (all_added texts (next_texts arrows text)) (place + 1)
       (all-added met (next_numbers numbered number) (next_texts arrows text) numbers texts (nexts numbered are inside) so_far.named)
-      (search-goes_on starts arrows texts place text so_far.searched (omega (arith, inside, length-map numbers (text_at met))) (sym (get_or-map (text_at met) numbers place 0 text inside)))
+      (search-goes_on starts arrows texts place text so_far.searched (omega (arith, inside, length-map numbers (text_at met)))
+          (sym (get_or-map (text_at met) numbers place 0 text inside)))
 
   pub finds-bound : length numbers ≤ length starts + length arrows
-  finds-bound = let bound = search-bound starts arrows (map (text_at met) numbers) place so_far.searched in omega (arith, bound, length-map numbers (text_at met))
+  finds-bound = let bound = search-bound starts arrows (map (text_at met) numbers) place so_far.searched
+      in omega (arith, bound, length-map numbers (text_at met))
 
   pub finds-ends : length numbers ≤ place → FindsAll starts arrows (map (text_at met) numbers)
-  finds-ends past = search-ends starts arrows (map (text_at met) numbers) place so_far.searched (omega (arith, past, length-map numbers (text_at met)))
+  finds-ends past = search-ends starts arrows (map (text_at met) numbers) place so_far.searched
+      (omega (arith, past, length-map numbers (text_at met)))

@@ -1,5 +1,7 @@
--- Beside a way that is longer than there are arrows there is a shorter one: it goes over some arrow twice, and what lies between is left out.
-use Rattle.std.proofs.Common.{◌≡◌, ◌∙◌, sym, ap, refl, subst, ℕ, zero, suc, ◌≤◌, ◌<◌, Bool, true, false, not, ◌&&◌, ◌||◌, cond, List, [], ◌∷◌, length, arith, inl, inr}
+-- Beside a way that is longer than there are arrows there is a shorter one: it goes over some arrow twice, and what lies between is left
+-- out.
+use Rattle.std.proofs.Common.{◌≡◌, ◌∙◌, sym, ap, refl, subst, ℕ, zero, suc, ◌≤◌, ◌<◌, Bool, true, false, not, ◌&&◌, ◌||◌, cond, List, []}
+use Rattle.std.proofs.Common.{◌∷◌, length, arith, inl, inr}
 use Rattle.std.proofs.lemmas.Bool.{cases_Bool, false≢true, and_parts}
 use Rattle.std.proofs.lemmas.List.Elements.{All-cons, All-nil}
 use Rattle.std.specs.List.{Contains, All, filter, list_any}
@@ -49,7 +51,8 @@ fewer : (a : ArrowValue) (arrows : List ArrowValue) → Contains arrows a → le
 fewer a [] stands = nothing_in a stands
 fewer a (x ∷ xs) stands =
     elim (head_or_tail x xs a stands) [
-      | inl is ↦ left_out (not (same_arrow a x)) x (without a xs) (length xs) (ap not (ap (same_arrow a) is ∙ same_itself a)) (length-filter _ xs)
+      | inl is ↦ left_out (not (same_arrow a x)) x (without a xs) (length xs)
+          (ap not (ap (same_arrow a) is ∙ same_itself a)) (length-filter _ xs)
       | inr c ↦ kept (not (same_arrow a x)) x (without a xs) (length xs) (fewer a xs c)
     ]
 
@@ -61,7 +64,8 @@ record Behind (arrows : List ArrowValue) (a : ArrowValue) (to : List ℕ) (most 
   pub fits : length way < most
 
 -- the rest of a way from an arrow on that it goes over
-from_arrow : (arrows : List ArrowValue) (a : ArrowValue) (way : List ArrowValue) (from to : List ℕ) → list_any (same_arrow a) way ≡ true → All (Contains arrows) way
+from_arrow : (arrows : List ArrowValue) (a : ArrowValue) (way : List ArrowValue) (from to : List ℕ) → list_any (same_arrow a) way ≡ true
+    → All (Contains arrows) way
     → Lead way from to → Behind arrows a to (length way)
 unfolding Lead
 from_arrow arrows a [] from to goes all lead = absurd (false≢true goes)
@@ -69,7 +73,8 @@ from_arrow arrows a (b ∷ way) from to goes all lead =
     elim (cases_Bool (same_arrow a b)) [
       | inl is ↦
           let same : b ≡ a = sym (one_arrow a b is) in
-          record { way = way; are_arrows = subst (λ s. All (Contains arrows) (s ∷ way)) same all; lead = subst (λ (s : ArrowValue). Lead way s.to to) same lead.1; fits = omega arith }
+          record { way = way; are_arrows = subst (λ s. All (Contains arrows) (s ∷ way)) same all; lead =
+              subst (λ (s : ArrowValue). Lead way s.to to) same lead.1; fits = omega arith }
       | inr other ↦
           let later = ap (λ p. p || list_any (same_arrow a) way) (sym other) ∙ goes in
           let rest = from_arrow arrows a way b.to to later (behind_first (Contains arrows) b way all) lead.1 in
@@ -77,14 +82,16 @@ from_arrow arrows a (b ∷ way) from to goes all lead =
     ]
 
 -- a way that doesn't go over an arrow goes over the others
-over_others : (arrows : List ArrowValue) (a : ArrowValue) (way : List ArrowValue) → list_any (same_arrow a) way ≡ false → All (Contains arrows) way → All (Contains (without a arrows)) way
+over_others : (arrows : List ArrowValue) (a : ArrowValue) (way : List ArrowValue) → list_any (same_arrow a) way ≡ false
+    → All (Contains arrows) way → All (Contains (without a arrows)) way
 over_others arrows a [] never all = All-nil (Contains (without a arrows))
 over_others arrows a (b ∷ way) never all =
     let apart = neither (same_arrow a b) (list_any (same_arrow a) way) never in
     All-cons (Contains (without a arrows)) b way (in_filter _ arrows b (first_of (Contains arrows) b way all) (ap not apart.0))
     (over_others arrows a way apart.1 (behind_first (Contains arrows) b way all))
 
-over_all : (arrows : List ArrowValue) (a : ArrowValue) (way : List ArrowValue) → All (Contains (without a arrows)) way → All (Contains arrows) way
+over_all : (arrows : List ArrowValue) (a : ArrowValue) (way : List ArrowValue) → All (Contains (without a arrows)) way
+    → All (Contains arrows) way
 over_all arrows a [] all = All-nil (Contains arrows)
 over_all arrows a (b ∷ way) all =
     All-cons (Contains arrows) b way (from_filter _ arrows b (first_of (Contains (without a arrows)) b way all)).0
@@ -97,7 +104,8 @@ pub record Short (arrows : List ArrowValue) (from to : List ℕ) : Type 0 where
   pub lead : Lead way from to
   pub fits : length way ≤ length arrows
 
-pub short : (most : ℕ) (arrows way : List ArrowValue) (from to : List ℕ) → length way ≤ most → All (Contains arrows) way → Lead way from to → Short arrows from to
+pub short : (most : ℕ) (arrows way : List ArrowValue) (from to : List ℕ) → length way ≤ most → All (Contains arrows) way
+    → Lead way from to → Short arrows from to
 unfolding Lead
 short most arrows [] from to fits all lead = record { way = []; are_arrows = all; lead = lead; fits = omega arith }
 short zero arrows (a ∷ way) from to fits all lead = absurd (omega (arith, fits))

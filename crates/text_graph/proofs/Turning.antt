@@ -15,7 +15,8 @@ reached_after first arrows text = (
   λ from.
       let origin = from_map (λ (arrow : ArrowValue). arrow.to) first from.start from.is_start in
       record { start = origin.element; is_first = origin.stands; further = subst (λ t. Way arrows t text) (sym origin.gives) from.way },
-  λ reached. record { start = reached.start.to; is_start = in_map (λ (arrow : ArrowValue). arrow.to) first reached.start reached.is_first; way = reached.further },
+  λ reached. record { start = reached.start.to; is_start = in_map (λ (arrow : ArrowValue). arrow.to) first reached.start reached.is_first;
+      way = reached.further },
 )
 
 turned_stands : (arrows : List ArrowValue) (arrow : ArrowValue) → Contains arrows arrow → Contains (map turned arrows) (turned arrow)
@@ -27,7 +28,8 @@ stands_turned arrows arrow stands =
     subst (Contains arrows) (ap turned origin.gives) origin.stands
 
 -- an arrow that ends at the goal begins where the search over turned arrows starts
-pub reaching_turned : (arrows : List ArrowValue) (goal text : List ℕ) → IsFrom (next_texts (map turned arrows) goal) (map turned arrows) text ↔ Reaches arrows goal text
+pub reaching_turned : (arrows : List ArrowValue) (goal text : List ℕ) → IsFrom (next_texts (map turned arrows) goal) (map turned arrows)
+    text ↔ Reaches arrows goal text
 reaching_turned arrows goal text = (
   λ from.
       let origin = from_map (λ (arrow : ArrowValue). arrow.to) _ from.start from.is_start in
@@ -36,16 +38,19 @@ reaching_turned arrows goal text = (
         last = turned origin.element;
         is_arrow = stands_turned arrows origin.element kept.0;
         ends = sym (equal_texts goal origin.element.from kept.1);
-        before = subst (Way arrows text) (sym origin.gives) (turned_back (map turned arrows) arrows (stands_turned arrows) from.start text from.way);
+        before = subst (Way arrows text) (sym origin.gives) (turned_back (map turned arrows) arrows (stands_turned arrows)
+            from.start text from.way);
       }) in
       record { start = whole.first; is_arrow = whole.is_arrow; begins = whole.begins; further = whole.further },
   λ reaches.
-      let whole = ended arrows text goal (record { first = reaches.start; is_arrow = reaches.is_arrow; begins = reaches.begins; further = reaches.further }) in
+      let whole = ended arrows text goal
+          (record { first = reaches.start; is_arrow = reaches.is_arrow; begins = reaches.begins; further = reaches.further }) in
       let back = turned whole.last in
       record {
         start = whole.last.from;
         is_start = in_map (λ (arrow : ArrowValue). arrow.to) _ back
-            (in_filter (λ (arrow : ArrowValue). bytes_eq goal arrow.from) (map turned arrows) back (turned_stands arrows whole.last whole.is_arrow)
+            (in_filter (λ (arrow : ArrowValue). bytes_eq goal arrow.from) (map turned arrows) back
+                (turned_stands arrows whole.last whole.is_arrow)
             (ap (bytes_eq goal) whole.ends ∙ equal_itself goal));
         way = turned_back arrows (map turned arrows) (turned_stands arrows) text whole.last.from whole.before;
       },

@@ -18,7 +18,8 @@ pub behind_first : {X : Type 0} (P : X → Type 0) (x : X) (xs : List X) → All
 behind_first P x xs all = All-from_recursion P xs (recursion_from_All P (x ∷ xs) all).1
 
 -- an arrow before a way
-pub in_front : (arrows : List ArrowValue) (arrow : ArrowValue) (to : List ℕ) → Contains arrows arrow → Way arrows arrow.to to → Way arrows arrow.from to
+pub in_front : (arrows : List ArrowValue) (arrow : ArrowValue) (to : List ℕ) → Contains arrows arrow → Way arrows arrow.to to
+    → Way arrows arrow.from to
 unfolding Lead
 in_front arrows arrow to stands further = record {
   way = arrow ∷ further.way;
@@ -27,20 +28,25 @@ in_front arrows arrow to stands further = record {
 }
 
 -- an arrow after a way
-pub at_end : (arrows : List ArrowValue) (way : List ArrowValue) (from : List ℕ) (arrow : ArrowValue) → All (Contains arrows) way → Contains arrows arrow
+pub at_end : (arrows : List ArrowValue) (way : List ArrowValue) (from : List ℕ) (arrow : ArrowValue)
+    → All (Contains arrows) way → Contains arrows arrow
     → Lead way from arrow.from → Way arrows from arrow.to
 unfolding Lead
-at_end arrows [] from arrow all stands lead = subst (λ text. Way arrows text arrow.to) (sym lead) (in_front arrows arrow arrow.to stands (stay arrows arrow.to arrow.to refl))
+at_end arrows [] from arrow all stands lead = subst (λ text. Way arrows text arrow.to) (sym lead)
+    (in_front arrows arrow arrow.to stands (stay arrows arrow.to arrow.to refl))
 at_end arrows (step ∷ way) from arrow all stands lead =
     subst (λ text. Way arrows text arrow.to) lead.0
-    (in_front arrows step arrow.to (first_of (Contains arrows) step way all) (at_end arrows way step.to arrow (behind_first (Contains arrows) step way all) stands lead.1))
+    (in_front arrows step arrow.to (first_of (Contains arrows) step way all)
+        (at_end arrows way step.to arrow (behind_first (Contains arrows) step way all) stands lead.1))
 
-pub farther : (arrows : List ArrowValue) (from to : List ℕ) (arrow : ArrowValue) → Way arrows from to → Contains arrows arrow → arrow.from ≡ to → Way arrows from arrow.to
+pub farther : (arrows : List ArrowValue) (from to : List ℕ) (arrow : ArrowValue) → Way arrows from to → Contains arrows arrow
+    → arrow.from ≡ to → Way arrows from arrow.to
 farther arrows from to arrow so_far stands begins =
     at_end arrows so_far.way from arrow so_far.are_arrows stands (subst (λ text. Lead so_far.way from text) (sym begins) so_far.lead)
 
 -- a way over the same arrows, turned
-back_over : (arrows back : List ArrowValue) → ((arrow : ArrowValue) → Contains arrows arrow → Contains back (turned arrow)) → (way : List ArrowValue) (from to : List ℕ)
+back_over : (arrows back : List ArrowValue) → ((arrow : ArrowValue) → Contains arrows arrow → Contains back (turned arrow))
+    → (way : List ArrowValue) (from to : List ℕ)
     → All (Contains arrows) way → Lead way from to → Way back to from
 unfolding Lead
 back_over arrows back turns [] from to all lead = stay back to from (sym lead)
@@ -49,7 +55,8 @@ back_over arrows back turns (step ∷ way) from to all lead =
     (farther back to step.to (turned step) (back_over arrows back turns way step.to to (behind_first (Contains arrows) step way all) lead.1)
     (turns step (first_of (Contains arrows) step way all)) refl)
 
-pub turned_back : (arrows back : List ArrowValue) → ((arrow : ArrowValue) → Contains arrows arrow → Contains back (turned arrow)) → (from to : List ℕ)
+pub turned_back : (arrows back : List ArrowValue) → ((arrow : ArrowValue) → Contains arrows arrow → Contains back (turned arrow))
+    → (from to : List ℕ)
     → Way arrows from to → Way back to from
 turned_back arrows back turns from to so_far = back_over arrows back turns so_far.way from to so_far.are_arrows so_far.lead
 
@@ -67,10 +74,12 @@ pub record Ended (arrows : List ArrowValue) (from to : List ℕ) : Type 0 where
   pub ends : last.to ≡ to
   pub before : Way arrows from last.from
 
-begun_over : (arrows : List ArrowValue) (last : ArrowValue) → Contains arrows last → (way : List ArrowValue) (from : List ℕ) → All (Contains arrows) way → Lead way from last.from
+begun_over : (arrows : List ArrowValue) (last : ArrowValue) → Contains arrows last → (way : List ArrowValue) (from : List ℕ)
+    → All (Contains arrows) way → Lead way from last.from
     → Begun arrows from last.to
 unfolding Lead
-begun_over arrows last stands [] from all lead = record { first = last; is_arrow = stands; begins = sym lead; further = stay arrows last.to last.to refl }
+begun_over arrows last stands [] from all lead = record { first = last; is_arrow = stands; begins = sym lead; further =
+    stay arrows last.to last.to refl }
 begun_over arrows last stands (step ∷ way) from all lead = record {
   first = step;
   is_arrow = first_of (Contains arrows) step way all;
@@ -83,12 +92,15 @@ begun arrows from to ended =
     subst (λ text. Begun arrows from text) ended.ends
     (begun_over arrows ended.last ended.is_arrow ended.before.way from ended.before.are_arrows ended.before.lead)
 
-ended_over : (arrows : List ArrowValue) (way : List ArrowValue) (first : ArrowValue) (to : List ℕ) → Contains arrows first → All (Contains arrows) way → Lead way first.to to
+ended_over : (arrows : List ArrowValue) (way : List ArrowValue) (first : ArrowValue) (to : List ℕ) → Contains arrows first
+    → All (Contains arrows) way → Lead way first.to to
     → Ended arrows first.from to
 unfolding Lead
-ended_over arrows [] first to stands all lead = record { last = first; is_arrow = stands; ends = lead; before = stay arrows first.from first.from refl }
+ended_over arrows [] first to stands all lead = record { last = first; is_arrow = stands; ends = lead; before =
+    stay arrows first.from first.from refl }
 ended_over arrows (step ∷ way) first to stands all lead =
-    let further = ended_over arrows way step to (first_of (Contains arrows) step way all) (behind_first (Contains arrows) step way all) lead.1 in
+    let further = ended_over arrows way step to (first_of (Contains arrows) step way all)
+        (behind_first (Contains arrows) step way all) lead.1 in
     record {
       last = further.last;
       is_arrow = further.is_arrow;

@@ -1,5 +1,6 @@
 -- Looking for the mark at which a text is cut, from place to place.
-use Rattle.std.proofs.Common.{◌≡◌, ◌==◌, ◌+◌, ◌<◌, ◌≤◌, ℕ, Bool, true, false, ◌&&◌, List, [], ◌∷◌, ◌++◌, length, take, drop, get_or, Option, Some, None, sym, ap, refl, ◌∙◌, append-nil}
+use Rattle.std.proofs.Common.{◌≡◌, ◌==◌, ◌+◌, ◌<◌, ◌≤◌, ℕ, Bool, true, false, ◌&&◌, List, [], ◌∷◌, ◌++◌, length, take, drop, get_or, Option}
+use Rattle.std.proofs.Common.{Some, None, sym, ap, refl, ◌∙◌, append-nil}
 use Rattle.std.proofs.lemmas.List.{append_assoc, drop_more, at_drop_all, take_more}
 use Rattle.std.specs.Option.{option_map}
 use Rattle.text_parts.specs.Cuts.{Cut, cut_where, cut_at}
@@ -14,7 +15,8 @@ shifted-none (Some cut) = refl
 
 shifted-more : (front : List ℕ) (byte : ℕ) (cut : Option Cut) → shifted front (shifted (byte ∷ []) cut) ≡ shifted (front ++ byte ∷ []) cut
 shifted-more front byte None = refl
-shifted-more front byte (Some cut) = ap (λ before. Some (record { before = before; behind = cut.behind })) (sym (append_assoc front (byte ∷ []) cut.before))
+shifted-more front byte (Some cut) = ap (λ before. Some (record { before = before; behind = cut.behind }))
+    (sym (append_assoc front (byte ∷ []) cut.before))
 
 on : (mark : ℕ) (test : List ℕ → Bool) (byte : ℕ) (rest : List ℕ) → (byte == mark && test rest) ≡ false
     → cut_where mark test (byte ∷ rest) ≡ shifted (byte ∷ []) (cut_where mark test rest)

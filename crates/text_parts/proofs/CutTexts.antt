@@ -10,7 +10,8 @@ joined mark cut = cut.before ++ mark ∷ cut.behind
 
 -- the cut of a longer text
 longer : (mark byte : ℕ) (rest : List ℕ) (found : Option Cut) (cut : Cut) → ((inner : Cut) → found ≡ Some inner → rest ≡ joined mark inner)
-    → option_map (λ (inner : Cut). record { before = byte ∷ inner.before; behind = inner.behind }) found ≡ Some cut → byte ∷ rest ≡ joined mark cut
+    → option_map (λ (inner : Cut). record { before = byte ∷ inner.before; behind = inner.behind }) found ≡ Some cut
+    → byte ∷ rest ≡ joined mark cut
 longer mark byte rest None cut known e = cc
 longer mark byte rest (Some inner) cut known e =
     let is : cut ≡ record { before = byte ∷ inner.before; behind = inner.behind } = cc in

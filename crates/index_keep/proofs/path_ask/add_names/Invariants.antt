@@ -4,4 +4,5 @@ use Rattle.index_keep.specs.Right.{names_in}
 use Rattle.index_keep.proofs.path_ask.add_names.Given as goal
 
 abbrev pub invariant-loop-question : goal.invariant-loop-question
-invariant-loop-question l = map string_bytes l.names.items ≡ map string_bytes l.initial.names.items ++ names_in (take l.question-index l.questions)
+invariant-loop-question l = map string_bytes l.names.items ≡ map string_bytes l.initial.names.items ++ names_in
+    (take l.question-index l.questions)

@@ -16,7 +16,9 @@ loop-row-preserved c =
     record {
       left = left;
       known = λ entries are. KnowsRows-next test entries passed row (row-stored entries c.args.stored.items passed rest row left are)
-          (said_in c.loop-row.sorted.known) (said_in c.add.new.sorted.known) c.in_ok-add.ensures.known (c.loop-row.invariant.known entries are);
+          (said_in c.loop-row.sorted.known) (said_in c.add.new.sorted.known) c.in_ok-add.ensures.known
+          (c.loop-row.invariant.known entries are);
       outdated = λ entries are. ListsOutdated-next test entries passed row (row-stored entries c.args.stored.items passed rest row left are)
-          (map string_bytes c.loop-row.sorted.outdated.items) (map string_bytes c.add.new.sorted.outdated.items) c.in_ok-add.ensures.outdated (c.loop-row.invariant.outdated entries are);
+          (map string_bytes c.loop-row.sorted.outdated.items) (map string_bytes c.add.new.sorted.outdated.items)
+              c.in_ok-add.ensures.outdated (c.loop-row.invariant.outdated entries are);
     }

@@ -12,7 +12,8 @@ loop-path-preserved c = λ order path.
     let text = c.path-item.result in
     let before = map string_bytes c.loop-path.found.items in
     let passes = c.is_found_in.ensures.all order ∙ ap (λ p. is_one_of p others) c.deref.ensures in
-    let next = λ (added : Bool) (is : c.is_found_in.result ≡ added). chosen-next (λ at. is_one_of at others) c.args.paths.now c.loop-path.path-index text before added
+    let next = λ (added : Bool) (is : c.is_found_in.result ≡ added). chosen-next (λ at. is_one_of at others) c.args.paths.now
+        c.loop-path.path-index text before added
     c.loop-path-test.true c.path-item.is (sym passes ∙ is) (c.loop-path.invariant order) path in
     elim c.if-is_found_in.branch [
       | then-is_found_in+in_ok-from_str+in_ok-push w ↦
@@ -21,5 +22,6 @@ loop-path-preserved c = λ order path.
           ∙ ap (is_one_of path) (map-append string_bytes c.loop-path.found.items (w.in_ok-from_str.field-0 ∷ []))
           ∙ ap (λ bytes. is_one_of path (before ++ bytes ∷ [])) (w.in_ok-from_str.ensures.ok ∙ w.as_str.ensures.value)
           ∙ next _ w.if-is_found_in.true
-      | else-is_found_in w ↦ ap (λ (found : Vec (String Global) Global). is_one_of path (map string_bytes found.items)) w.found-is ∙ next _ w.if-is_found_in.false
+      | else-is_found_in w ↦ ap (λ (found : Vec (String Global) Global). is_one_of path (map string_bytes found.items)) w.found-is
+          ∙ next _ w.if-is_found_in.false
     ]

@@ -8,5 +8,6 @@ use Rattle.index_keep.proofs.stage.lacking_among.Given as goal
 abbrev pub invariant-loop-path : goal.invariant-loop-path
 invariant-loop-path l = record {
   finder : IsFinderOf l.known l.finder;
-  lacking : (path : List ℕ) → is_one_of path (map string_bytes l.lacking.items) ≡ (is_one_of path (map string_bytes (take l.path-index l.paths)) && is_none (entries_in l.known path));
+  lacking : (path : List ℕ) → is_one_of path (map string_bytes l.lacking.items) ≡
+      (is_one_of path (map string_bytes (take l.path-index l.paths)) && is_none (entries_in l.known path));
 }

@@ -16,11 +16,13 @@ returns c = λ world rows says are.
     let known = entries_in c.args.begun.known in
     let all = directories (files_in world) in
     let paths = map string_bytes c.in_ok-paths.paths.items in
-    let lacks = λ (path : List ℕ). c.in_ok-paths.ensures path ∙ ap (λ dirs. is_one_of path dirs && is_none (known path)) (ap (λ items. map string_bytes items) c.deref.ensures.value ∙ are) in
+    let lacks = λ (path : List ℕ). c.in_ok-paths.ensures path ∙ ap (λ dirs. is_one_of path dirs && is_none (known path))
+        (ap (λ items. map string_bytes items) c.deref.ensures.value ∙ are) in
     record {
       stage = subst (IsStage world rows all) (sym c.new.ensures) (record {
         among = lacking-among world known all paths lacks;
-        others = λ path one apart. decided-one world known (fresh rows) (entries-fresh rows c.args.begun.known says) path (lacking-others world known all paths lacks path one apart);
+        others = λ path one apart. decided-one world known (fresh rows) (entries-fresh rows c.args.begun.known says) path
+            (lacking-others world known all paths lacks path one apart);
         knows = says;
         passed = none-passed world (fresh rows) 0 paths refl;
       });

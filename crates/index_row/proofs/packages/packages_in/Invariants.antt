@@ -6,4 +6,5 @@ use Rattle.index_row.proofs.Walks.{with_front}
 use Rattle.index_row.proofs.packages.packages_in.Given as goal
 
 abbrev pub invariant-loop : goal.invariant-loop
-invariant-loop l = with_front l.found.items (counted_items port_package (l.count - l.counter) l.rest) ≡ counted_items port_package l.count l.bytes
+invariant-loop l = with_front l.found.items (counted_items port_package (l.count - l.counter) l.rest) ≡ counted_items
+    port_package l.count l.bytes

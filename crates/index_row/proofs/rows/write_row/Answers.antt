@@ -8,4 +8,5 @@ use Rattle.index_row.proofs.rows.write_row.Goals as goal
 pub returns : goal.returns
 returns c =
     row_of-written _ _
-    (subst (λ (old : List ℕ). Adds row old c.write_parts.new.out.items (kept_row_seen c.args.row.now)) c.in_ok-out.ensures.items c.in_ok-write_parts.ensures)
+    (subst (λ (old : List ℕ). Adds row old c.write_parts.new.out.items (kept_row_seen c.args.row.now)) c.in_ok-out.ensures.items
+        c.in_ok-write_parts.ensures)

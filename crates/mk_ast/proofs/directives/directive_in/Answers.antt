@@ -7,7 +7,8 @@ use Rattle.mk_ast.proofs.directives.directive_in.Goals as goal
 
 undotted : (text : List ℕ) → ((rest : List ℕ) → text ≢ 46 ∷ rest) → None ≡ directive_in text
 undotted [] other = refl
-undotted (b ∷ rest) other = sym (cond-false _ (directive_after_dot (skip_blanks rest)) None (ne_eqb b 46 (λ e. other rest (ap (λ n. n ∷ rest) e))))
+undotted (b ∷ rest) other =
+    sym (cond-false _ (directive_after_dot (skip_blanks rest)) None (ne_eqb b 46 (λ e. other rest (ap (λ n. n ∷ rest) e))))
 
 pub returns-in-None : goal.returns-in-None
 returns-in-None c = undotted c.args.text.now (strip_prefix_char 46 c.args.text.now None c.in-None.ensures.cases (lit< tt))

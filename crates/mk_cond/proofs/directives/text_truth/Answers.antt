@@ -13,13 +13,16 @@ use Rattle.mk_cond.specs.Truths.{or_truth}
 use Rattle.mk_cond.specs.Truth.{readable, tree_read, condition_truth}
 use Rattle.mk_cond.proofs.directives.text_truth.Goals as goal
 
-none_read : (law : ConditionsAreRead) (text : List ℕ) (found : Option OrTree) → left_of text ≡ [] → ((tree : OrTree) → IsConditionOf text tree → ⊥) → tree_in (outside text) ≡ found → found ≡ None
+none_read : (law : ConditionsAreRead) (text : List ℕ) (found : Option OrTree) → left_of text ≡ []
+    → ((tree : OrTree) → IsConditionOf text tree → ⊥) → tree_in (outside text) ≡ found → found ≡ None
 none_read law text None ends none is = refl
 none_read law text (Some tree) ends none is = absurd (none tree ((law text tree).1 (ends, is)))
 
-unread : (s : Surroundings) (a : Account) → left_of s.text ≡ [] → tree_in (outside s.text) ≡ None → condition_truth s a ≡ Err (kinds.Condition, a)
+unread : (s : Surroundings) (a : Account) → left_of s.text ≡ [] → tree_in (outside s.text) ≡ None
+    → condition_truth s a ≡ Err (kinds.Condition, a)
 unfolding condition_truth
-unread s a ends none = ap (λ left. after (tree_read s.text left a) (or_truth s)) ends ∙ ap (λ found. after (readable found a) (or_truth s)) none
+unread s a ends none = ap (λ left. after (tree_read s.text left a) (or_truth s)) ends
+    ∙ ap (λ found. after (readable found a) (or_truth s)) none
 
 pub returns-in-Err-Unreadable : goal.returns-in-Err-Unreadable
 returns-in-Err-Unreadable g c =

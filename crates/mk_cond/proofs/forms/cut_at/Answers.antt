@@ -9,4 +9,5 @@ blank-ascii : (b : ℕ) → is_blank b ≡ true → b < 128
 blank-ascii b is = grind (arith, nat_tests)
 
 pub range_from-requires : goal.range_from-requires
-range_from-requires c = λ some. IsCharBoundary-after_ascii c.args.text.now c.args.at c.utf8.text c.requires.within (blank-ascii _ c.requires.blank)
+range_from-requires c = λ some. IsCharBoundary-after_ascii c.args.text.now c.args.at c.utf8.text c.requires.within
+    (blank-ascii _ c.requires.blank)

@@ -15,11 +15,14 @@ same_piece text (v.Literal span) = refl
 same_piece text (v.EscapedDollar span) = refl
 same_piece text (v.Reference reference) = refl
 
-same_pieces : (text : List ℕ) (found : List Piece) → list_any is_reference_piece found ≡ list_any is_reference (map (piece_in_text text) found)
+same_pieces : (text : List ℕ) (found : List Piece) → list_any is_reference_piece found ≡ list_any is_reference
+    (map (piece_in_text text) found)
 same_pieces text [] = refl
-same_pieces text (piece ∷ found) = ap (λ b. b || list_any is_reference_piece found) (same_piece text piece) ∙ ap (λ b. is_reference (piece_in_text text piece) || b) (same_pieces text found)
+same_pieces text (piece ∷ found) = ap (λ b. b || list_any is_reference_piece found) (same_piece text piece)
+    ∙ ap (λ b. is_reference (piece_in_text text piece) || b) (same_pieces text found)
 
-whole : (text : List ℕ) (found : List TextPiece) → left_of text ≡ [] → found ≡ pieces_of (atoms_of text) → list_any is_reference found ≡ has_reference text
+whole : (text : List ℕ) (found : List TextPiece) → left_of text ≡ [] → found ≡ pieces_of (atoms_of text)
+    → list_any is_reference found ≡ has_reference text
 unfolding has_reference
 whole text found ends are = ap (list_any is_reference) are ∙ ap (λ left. refers left (pieces_of (atoms_of text))) (sym ends)
 
@@ -35,7 +38,9 @@ pub returns-in-Ok : goal.returns-in-Ok
 returns-in-Ok c =
     let text = c.args.text.now in
     let found = c.in-Ok.found.items in
-    c.refers.ensures ∙ ap (list_any is_reference_piece) c.as_slice.ensures.value ∙ same_pieces text found ∙ whole text (map (piece_in_text text) found) c.in-Ok.ensures.whole c.in-Ok.ensures.pieces
+    c.refers.ensures ∙ ap (list_any is_reference_piece) c.as_slice.ensures.value ∙ same_pieces text found
+        ∙ whole text (map (piece_in_text text) found) c.in-Ok.ensures.whole c.in-Ok.ensures.pieces
 
 pub returns-in-Err-Unclosed : goal.returns-in-Err-Unclosed
-returns-in-Err-Unclosed c = cut_short c.args.text.now (IsFaultOf-left c.args.text.now c.in-Err-Unclosed.field-0 c.in-Err-Unclosed.field-0-0 c.in-Err-Unclosed.ensures.fault c.in-Err-Unclosed.field-0-is)
+returns-in-Err-Unclosed c = cut_short c.args.text.now (IsFaultOf-left c.args.text.now c.in-Err-Unclosed.field-0 c.in-Err-Unclosed.field-0-0
+    c.in-Err-Unclosed.ensures.fault c.in-Err-Unclosed.field-0-is)

@@ -1,5 +1,6 @@
 -- Digits are ASCII, and so many write no greater number than fits.
-use Rattle.std.proofs.Common.{◌≡◌, ◌≢◌, ◌<◌, ◌≤◌, ◌^◌, ◌∙◌, ℕ, zero, suc, true, List, [], ◌∷◌, length, map, if◌then◌else◌, None, Some, IfSome, Result, Ok, Err, refl, sym, ap, subst, arith}
+use Rattle.std.proofs.Common.{◌≡◌, ◌≢◌, ◌<◌, ◌≤◌, ◌^◌, ◌∙◌, ℕ, zero, suc, true, List, [], ◌∷◌, length, map, if◌then◌else◌, None, Some}
+use Rattle.std.proofs.Common.{IfSome, Result, Ok, Err, refl, sym, ap, subst, arith}
 use Rattle.std.specs.List.{list_all}
 use Rattle.std.specs.Char.{is_digit, digit_value}
 use Rattle.std.specs.Result.{result_ok}
@@ -19,7 +20,8 @@ digit-ascii : (c radix : ℕ) → radix ≤ 36 → digit_value c < radix → c <
 digit-ascii c radix small digit = grind (arith, nat_tests)
 
 digit-no_plus : (c radix : ℕ) → radix ≤ 36 → digit_value c < radix → c ≢ 43
-digit-no_plus c radix small digit is = let low : digit_value 43 < radix = subst (λ b. digit_value b < radix) is digit in absurd (omega arith)
+digit-no_plus c radix small digit is = let low : digit_value 43 < radix = subst (λ b. digit_value b < radix) is
+    digit in absurd (omega arith)
 
 all_digits : (radix : ℕ) (digits : List ℕ) → list_all (λ c. is_digit c radix) digits ≡ true → AllDigits radix digits
 all_digits radix [] is = tt
@@ -44,9 +46,11 @@ parts radix most digits is =
     let sizes = and_parts _ _ outer.0 in
     record { some = leb-true 1 (length digits) sizes.0; few = leb-true (length digits) most sizes.1; all = all_digits radix digits outer.1 }
 
-below : (radix most : ℕ) (digits : List ℕ) → 2 ≤ radix → radix ^ most ≤ 2 ^ 63 → Parts radix most digits → digits_value radix digits < 2 ^ 63
+below : (radix most : ℕ) (digits : List ℕ) → 2 ≤ radix → radix ^ most ≤ 2 ^ 63 → Parts radix most digits
+    → digits_value radix digits < 2 ^ 63
 below radix most digits base fits p =
-    let low : digits_value radix digits < radix ^ length digits = rw (digits_value_is, ← length-map digits digit_value) (number_lt radix (map digit_value digits) (all_below_base_from_digits radix digits p.all)) in
+    let low : digits_value radix digits < radix ^ length digits = rw (digits_value_is, ← length-map digits digit_value)
+        (number_lt radix (map digit_value digits) (all_below_base_from_digits radix digits p.all)) in
     let some : 0 < radix = omega arith in
     omega (arith, low, pow-le-pow_right some p.few, fits)
 
@@ -54,7 +58,8 @@ no_plus : (radix : ℕ) (digits : List ℕ) → radix ≤ 36 → AllDigits radix
 no_plus radix [] small all = refl
 no_plus radix (c ∷ digits) small all = without_leading_plus_none (c ∷ digits) (digit-no_plus c radix small all.0)
 
-parsed : {E : Type 0} (radix : ℕ) (digits : List ℕ) (r : Result ℕ E) → radix ≤ 36 → 1 ≤ length digits → AllDigits radix digits → digits_value radix digits < 2 ^ 63 → ParsesUnsigned 64 radix digits r
+parsed : {E : Type 0} (radix : ℕ) (digits : List ℕ) (r : Result ℕ E) → radix ≤ 36 → 1 ≤ length digits → AllDigits radix digits
+    → digits_value radix digits < 2 ^ 63 → ParsesUnsigned 64 radix digits r
     → result_ok r ≡ Some (digits_value radix digits)
 parsed radix digits (Ok n) small some all low h = ap Some (h.1 ∙ ap (digits_value radix) (no_plus radix digits small all))
 parsed radix digits (Err e) small some all low h =
@@ -62,7 +67,8 @@ parsed radix digits (Err e) small some all low h =
     let more : digits_value radix digits < 2 ^ 64 = omega arith in
     absurd (h (rw same (some, all), rw same more))
 
-read : (radix most : ℕ) (digits : List ℕ) → is_numeral radix most digits ≡ true → numeral radix most digits ≡ Some (digits_value radix digits)
+read : (radix most : ℕ) (digits : List ℕ) → is_numeral radix most digits ≡ true
+    → numeral radix most digits ≡ Some (digits_value radix digits)
 read radix most digits is = ap (λ b. if b then Some (digits_value radix digits) else None) is
 
 pub returns-in-Ok-clause-value : goal.returns-in-Ok-clause-value
@@ -72,7 +78,8 @@ returns-in-Ok-clause-value c =
     let is : is_numeral radix c.args.most digits ≡ true = sym c.is_numeral.ensures ∙ c.if-not-is_numeral.false in
     let p = parts radix c.args.most digits is in
     c.ok.ensures.value
-    ∙ parsed radix digits c.from_str_radix.result c.requires.greatest p.some p.all (below radix c.args.most digits c.requires.least c.requires.few p) (rw c.in-Ok.ensures.cases.0 at c.from_str_radix.ensures.value)
+    ∙ parsed radix digits c.from_str_radix.result c.requires.greatest p.some p.all
+        (below radix c.args.most digits c.requires.least c.requires.few p) (rw c.in-Ok.ensures.cases.0 at c.from_str_radix.ensures.value)
     ∙ sym (read radix c.args.most digits is)
 
 pub returns-in-Ok-clause-small : goal.returns-in-Ok-clause-small
@@ -83,7 +90,8 @@ returns-in-Ok-clause-small c =
     let p = parts radix c.args.most digits is in
     let low : digits_value radix digits < 2 ^ 63 = below radix c.args.most digits c.requires.least c.requires.few p in
     subst (λ o. IfSome o (λ n. n < 2 ^ 63))
-    (sym (c.ok.ensures.value ∙ parsed radix digits c.from_str_radix.result c.requires.greatest p.some p.all low (rw c.in-Ok.ensures.cases.0 at c.from_str_radix.ensures.value)))
+    (sym (c.ok.ensures.value ∙ parsed radix digits c.from_str_radix.result c.requires.greatest p.some p.all low
+        (rw c.in-Ok.ensures.cases.0 at c.from_str_radix.ensures.value)))
     low
 
 pub returns-in-Err-clause-value : goal.returns-in-Err-clause-value
@@ -91,4 +99,5 @@ returns-in-Err-clause-value c =
     let radix = c.args.radix in
     let digits = c.args.digits.now in
     let is : is_numeral radix c.args.most digits ≡ true = sym c.is_numeral.ensures ∙ c.if-not-is_numeral.false in
-    absurd (c.in-Err.ensures.cases.0 (IsUtf8-from_ascii digits (ascii radix digits c.requires.greatest (parts radix c.args.most digits is).all)))
+    absurd (c.in-Err.ensures.cases.0
+        (IsUtf8-from_ascii digits (ascii radix digits c.requires.greatest (parts radix c.args.most digits is).all)))

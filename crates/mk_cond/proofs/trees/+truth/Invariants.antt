@@ -25,8 +25,10 @@ invariant-condition_truth-loop-conjunction g l =
     let view = g.F.Names.view in
     let s = surroundings_of l.setting (view l.fn.files).files in
     record {
-      goes : later_ands_truth s (later_ands (map conjunction_tree l.conjunction-items)) l.initial.held (account l.initial.budget (view l.initial.files))
-          ≡ later_ands_truth s (later_ands (map conjunction_tree (drop l.conjunction-index l.conjunction-items))) l.held (account l.budget (view l.files));
+      goes : later_ands_truth s (later_ands (map conjunction_tree l.conjunction-items)) l.initial.held
+          (account l.initial.budget (view l.initial.files))
+          ≡ later_ands_truth s (later_ands (map conjunction_tree (drop l.conjunction-index l.conjunction-items))) l.held
+              (account l.budget (view l.files));
       asked : AfterQuestions (view l.fn.files) (view l.files);
       later : IsLater l.fn.budget l.budget;
     }

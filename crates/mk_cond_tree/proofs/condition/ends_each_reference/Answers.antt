@@ -12,6 +12,7 @@ returns-clause-unclosed c =
     let P : Result Bool AllocError → Type 0 = λ r. IfOk r (λ ends. ends ≡ false → left_of text ≢ []) in
     elim c.match-pieces.branch [
       | in-Ok w ↦ subst P (sym w.result-is) (λ is. cc)
-      | in-Err-Unclosed w ↦ subst P (sym w.result-is) (λ is. unclosed-left text _ (subst (IsFaultOf text) w.in-Err-Unclosed.field-0-is w.in-Err-Unclosed.ensures.fault))
+      | in-Err-Unclosed w ↦ subst P (sym w.result-is)
+          (λ is. unclosed-left text _ (subst (IsFaultOf text) w.in-Err-Unclosed.field-0-is w.in-Err-Unclosed.ensures.fault))
       | in-Err-Memory w ↦ subst P (sym w.result-is) tt
     ]

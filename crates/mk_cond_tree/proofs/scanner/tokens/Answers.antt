@@ -6,7 +6,8 @@ use Rattle.mk_cond_tree.proofs.scanner.tokens.Goals as goal
 
 pub loop-at-preserved-then-is_blank : goal.loop-at-preserved-then-is_blank
 loop-at-preserved-then-is_blank c =
-    (ap (option_map (λ later. c.loop-at.found.items ++ later)) (walk-blank c.args.bytes.now c.loop-at.at c.loop-at-test.true c.if-is_blank.ensures) ∙ c.loop-at.invariant.0, omega arith)
+    (ap (option_map (λ later. c.loop-at.found.items ++ later)) (walk-blank c.args.bytes.now c.loop-at.at c.loop-at-test.true
+        c.if-is_blank.ensures) ∙ c.loop-at.invariant.0, omega arith)
 
 pub loop-at-preserved : goal.loop-at-preserved
 loop-at-preserved c =
@@ -15,14 +16,16 @@ loop-at-preserved c =
       ap (λ l. option_map (λ tokens. l ++ tokens) later) c.in_ok-push.ensures.items
           ∙ token-added c.loop-at.found.items c.in-Some.token later
           ∙ ap (option_map (λ tokens. c.loop-at.found.items ++ tokens))
-          (walk-token bytes c.loop-at.at c.in-Some.token c.in-Some.end c.loop-at-test.true c.if-is_blank.ensures c.in-Some.ensures.token c.in-Some.ensures.within.0)
+          (walk-token bytes c.loop-at.at c.in-Some.token c.in-Some.end c.loop-at-test.true c.if-is_blank.ensures c.in-Some.ensures.token
+              c.in-Some.ensures.within.0)
           ∙ c.loop-at.invariant.0,
       c.in-Some.ensures.within.1,
     )
 
 pub returns-in_default : goal.returns-in_default
 returns-in_default c =
-    sym (ap (option_map (λ later. c.loop-at.found.items ++ later)) (walk-refused c.args.bytes.now c.loop-at.at c.loop-at-test.true c.if-is_blank.ensures c.in_default.ensures.token))
+    sym (ap (option_map (λ later. c.loop-at.found.items ++ later)) (walk-refused c.args.bytes.now c.loop-at.at c.loop-at-test.true
+        c.if-is_blank.ensures c.in_default.ensures.token))
     ∙ c.loop-at.invariant.0 ∙ walk-tokens c.args.bytes.now
 
 pub returns : goal.returns

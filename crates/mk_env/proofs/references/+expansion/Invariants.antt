@@ -45,7 +45,8 @@ invariant-expand_text-loop-piece l =
     let turn = meaning.join_piece (references_in l.scope) in
     record {
       later : IsLater l.initial.budget l.budget;
-      goes : each turn [] (map (piece_in_text l.text) l.piece-items) l.initial.budget ≡ each turn (string_bytes l.joined) (map (piece_in_text l.text) (drop l.piece-index l.piece-items)) l.budget;
+      goes : each turn [] (map (piece_in_text l.text) l.piece-items) l.initial.budget ≡ each turn (string_bytes l.joined)
+          (map (piece_in_text l.text) (drop l.piece-index l.piece-items)) l.budget;
     }
 
 -- what is left to apply, from here, ends as all of it from the start
@@ -54,7 +55,8 @@ invariant-apply_modifiers-loop-modifier l =
     let turn = meaning.modified (references_in l.scope) in
     record {
       later : IsLater l.initial.budget l.budget;
-      goes : each turn (string_bytes l.initial.value) (map action_of l.modifiers) l.initial.budget ≡ each turn (string_bytes l.value) (map action_of (drop l.modifier-index l.modifiers)) l.budget;
+      goes : each turn (string_bytes l.initial.value) (map action_of l.modifiers) l.initial.budget ≡ each turn (string_bytes l.value)
+          (map action_of (drop l.modifier-index l.modifiers)) l.budget;
     }
 
 abbrev pub invariant-expand_parts-loop-part : goal.invariant-expand_parts-loop-part
@@ -63,5 +65,6 @@ invariant-expand_parts-loop-part l =
     record {
       later : IsLater l.initial.budget l.budget;
       small : length (string_bytes l.joined) ≤ TEXT_LIMIT;
-      goes : each turn [] (flat_map symbols_of l.parts) l.initial.budget ≡ each turn (string_bytes l.joined) (flat_map symbols_of (drop l.part-index l.parts)) l.budget;
+      goes : each turn [] (flat_map symbols_of l.parts) l.initial.budget ≡ each turn (string_bytes l.joined)
+          (flat_map symbols_of (drop l.part-index l.parts)) l.budget;
     }

@@ -9,12 +9,15 @@ use Rattle.mk_eval.specs.Lines.{inside_iteration}
 use Rattle.mk_eval.specs.Views.{loops_of, loops_of-inside, loops_of-alike}
 use Rattle.mk_eval.proofs.iterations.loops_at.Goals as goal
 
-made : {R E : Type 0} (items : R → List Iteration) (iterations : Iterations) (index : ℕ) (loops : List Iteration) (iteration : Iteration) (result : Result R E)
+made : {R E : Type 0} (items : R → List Iteration) (iterations : Iterations) (index : ℕ) (loops : List Iteration)
+    (iteration : Iteration) (result : Result R E)
     → slice_get (iterations_in iterations) index ≡ Some (iteration_words iteration)
     → IfOk result (λ inner. map iteration_words (items inner) ≡ map iteration_words loops ++ iteration_words iteration ∷ [])
-    → IfOk result (λ inner. (words : LoopWords) × (slice_get (iterations_in iterations) index ≡ Some words) × (loops_of (items inner) ≡ inside_iteration (loops_of loops) words))
+    → IfOk result (λ inner. (words : LoopWords) × (slice_get (iterations_in iterations) index ≡ Some words)
+        × (loops_of (items inner) ≡ inside_iteration (loops_of loops) words))
 made items iterations index loops iteration (Ok inner) at same =
-    (iteration_words iteration, at, loops_of-alike (items inner) (loops ++ iteration ∷ []) (same ∙ sym (map-append iteration_words loops (iteration ∷ []))) ∙ loops_of-inside loops iteration)
+    (iteration_words iteration, at, loops_of-alike (items inner) (loops ++ iteration ∷ [])
+        (same ∙ sym (map-append iteration_words loops (iteration ∷ []))) ∙ loops_of-inside loops iteration)
 made items iterations index loops iteration (Err stop) at same = tt
 
 pub returns : goal.returns

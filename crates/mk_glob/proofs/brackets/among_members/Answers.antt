@@ -3,12 +3,14 @@ use Rattle.mk_glob.specs.Signs.{signs_of}
 use Rattle.mk_glob.specs.Items.{bracketed}
 use Rattle.mk_glob.specs.Brackets.{TestsMembers}
 use Rattle.mk_glob.proofs.SignLemmas.{signs_of-empty}
-use Rattle.mk_glob.proofs.BracketLemmas.{of_body, after_end, of_body-begins, member_read, after_end-empty, after_end-closes, after_end-next, bracketed-from_told, HasBracketMembers-from_told, EndsRange-shorter}
+use Rattle.mk_glob.proofs.BracketLemmas.{of_body, after_end, of_body-begins, member_read, after_end-empty, after_end-closes, after_end-next}
+use Rattle.mk_glob.proofs.BracketLemmas.{bracketed-from_told, HasBracketMembers-from_told, EndsRange-shorter}
 use Rattle.mk_glob.proofs.brackets.among_members.Goals as goal
 
 pub returns-in_err-low : goal.returns-in_err-low
 returns-in_err-low c =
-    subst (TestsMembers c.args.body.now c.args.c) (sym c.from_residual.ensures) (ap bracketed (signs_of-empty c.args.body.now c.in_err-low.ensures))
+    subst (TestsMembers c.args.body.now c.args.c) (sym c.from_residual.ensures)
+        (ap bracketed (signs_of-empty c.args.body.now c.in_err-low.ensures))
 
 pub loop-sign-init : goal.loop-sign-init
 loop-sign-init c = (

@@ -4,7 +4,9 @@ use Rattle.mk_glob.specs.Signs.{is_bare, signs_of}
 use Rattle.mk_glob.specs.Items.{bracket}
 use Rattle.mk_glob.proofs.StepLemmas.{TellsOne-exactly, bracket-known, Finds-none}
 use Rattle.mk_glob.proofs.matcher.item_allows.Goals as goal
-use Rattle.mk_glob.proofs.matcher.item_allows.Goals.{then-is_bare-2+then-unclosed-behind+in_default, else-is_bare-2, else-is_bare-2-via-then-is_bare-2+else-unclosed-behind, else-is_bare-2-via-else-is_bare-2}
+use Rattle.mk_glob.proofs.matcher.item_allows.Goals.{then-is_bare-2+then-unclosed-behind+in_default, else-is_bare-2}
+use Rattle.mk_glob.proofs.matcher.item_allows.Goals.{else-is_bare-2-via-then-is_bare-2+else-unclosed-behind}
+use Rattle.mk_glob.proofs.matcher.item_allows.Goals.{else-is_bare-2-via-else-is_bare-2}
 
 pub returns-clause-tells : goal.returns-clause-tells
 returns-clause-tells c =
@@ -16,7 +18,8 @@ returns-clause-tells c =
         | else-is_bare-2-via-else-is_bare-2 w' ↦ λ e. absurd (both_ways (is_bare 91 c.args.sign) (sym w'.if-is_bare-2.ensures) e)
       ]
     ] in
-    TellsOne-exactly c.args.sign (signs_of c.args.behind.now) c.args.c c.character.result c.requires.item (sym c.if-is_bare.ensures) opens c.character.ensures
+    TellsOne-exactly c.args.sign (signs_of c.args.behind.now) c.args.c c.character.result c.requires.item (sym c.if-is_bare.ensures)
+        opens c.character.ensures
 
 pub returns-clause-learns : goal.returns-clause-learns
 returns-clause-learns c = elim c.if-is_bare-2.branch [

@@ -9,6 +9,8 @@ returns-in-Some c =
 
 pub returns : goal.returns
 returns c = elim c.if-first-eq92.branch [
-  | then-first-eq92+in_default w ↦ begins_with_last c.args.pattern.now c.in_ok-first.first c.in_ok-first.behind.now w.in_default.ensures c.in_ok-first.ensures
-  | else-first-eq92 w ↦ begins_with_bare c.args.pattern.now c.in_ok-first.first c.in_ok-first.behind.now w.if-first-eq92.false c.in_ok-first.ensures
+  | then-first-eq92+in_default w ↦ begins_with_last c.args.pattern.now c.in_ok-first.first c.in_ok-first.behind.now
+      w.in_default.ensures c.in_ok-first.ensures
+  | else-first-eq92 w ↦ begins_with_bare c.args.pattern.now c.in_ok-first.first c.in_ok-first.behind.now
+      w.if-first-eq92.false c.in_ok-first.ensures
 ]

@@ -30,7 +30,8 @@ loop-alloc-init c =
       paid = (λ _. refl, λ some. absurd (some new.copied));
       left = Outermost (atoms_of line);
       is_left = stands-first line pass c.in_ok-check_closed.ensures.whole new.around new.at;
-      goes = goes-first (words_in c.args.loops.now) c.args.variables.now line pass c.args.budget.now c.in_ok-check_closed.ensures.whole new.joined new.copied new.at;
+      goes = goes-first (words_in c.args.loops.now) c.args.variables.now line pass c.args.budget.now c.in_ok-check_closed.ensures.whole
+          new.joined new.copied new.at;
     }
 
 pub loop-alloc-preserved : goal.loop-alloc-preserved
@@ -52,8 +53,10 @@ returns-clause-gives c =
     let line = c.args.line.now in
     let invariant = c.loop-alloc.invariant in
     subst (λ outcome. GivesPurely (made_or_line line) c.finished.result c.loop-alloc.budget outcome)
-    (sym (invariant.goes ∙ goes-last (words_in c.args.loops.now) c.args.variables.now line c.loop-alloc.pass invariant.left c.loop-alloc.budget (omega arith) invariant.is_left))
+    (sym (invariant.goes ∙ goes-last (words_in c.args.loops.now) c.args.variables.now line c.loop-alloc.pass invariant.left
+        c.loop-alloc.budget (omega arith) invariant.is_left))
     (c.finished.ensures.gives c.loop-alloc.budget)
 
 pub returns-clause-none : goal.returns-clause-none
-returns-clause-none c = made-unspent c.args.budget.now c.loop-alloc.budget c.loop-alloc.pass.copied c.finished.result c.loop-alloc.invariant.paid c.finished.ensures.none
+returns-clause-none c = made-unspent c.args.budget.now c.loop-alloc.budget c.loop-alloc.pass.copied c.finished.result
+    c.loop-alloc.invariant.paid c.finished.ensures.none

@@ -12,7 +12,8 @@ invariant-loop-alloc l = record {
   paid : IsPaid l.initial.budget l.pass.copied l.budget;
   left : Left;
   is_left : HasLeft l.line l.pass left;
-  goes : body_line.put_words (words_in l.loops) l.variables l.line l.initial.budget ≡ goes (words_in l.loops) l.variables left (here l.line l.pass) l.budget;
+  goes : body_line.put_words (words_in l.loops) l.variables l.line l.initial.budget ≡ goes (words_in l.loops) l.variables left
+      (here l.line l.pass) l.budget;
 }
 
 abbrev pub decreases-loop-alloc : goal.decreases-loop-alloc

@@ -4,7 +4,8 @@ use Rattle.mk_ref.specs.Atoms.{Byte, EscapedDollar}
 use Rattle.mk_loop.proofs.AtomPlaces.{byte-at-place, pair-at-place}
 use Rattle.mk_loop.proofs.NameSteps.{name-more, name-ends, name-letter, name-marked, name-open}
 use Rattle.mk_loop.proofs.reference_names.name_end.Goals as goal
-use Rattle.mk_loop.proofs.reference_names.name_end.Goals.{then-bytes-at-via-then-bytes-at, then-bytes-at-via-else-bytes-at+then-bytes-at-eq58}
+use Rattle.mk_loop.proofs.reference_names.name_end.Goals.{then-bytes-at-via-then-bytes-at}
+use Rattle.mk_loop.proofs.reference_names.name_end.Goals.{then-bytes-at-via-else-bytes-at+then-bytes-at-eq58}
 
 pub returns-then-bytes-at : goal.returns-then-bytes-at
 returns-then-bytes-at c =
@@ -26,7 +27,8 @@ loop-at-preserved c =
     let text = c.args.bytes.now in
     let at = c.loop-at.at in
     name-more text c.args.start c.args.closing at (at + 2) EscapedDollar c.loop-at.invariant c.loop-at-test.true c.if-bytes-at.false
-    (pair-at-place text at c.in-Some-Doubled.ensures.inside (sym c.in-Some-Doubled.ensures.opening ∙ ap Some c.in-Some-Doubled.field-0-is)) refl refl
+    (pair-at-place text at c.in-Some-Doubled.ensures.inside (sym c.in-Some-Doubled.ensures.opening ∙ ap Some c.in-Some-Doubled.field-0-is))
+        refl refl
 
 pub returns-in-Some-Letter : goal.returns-in-Some-Letter
 returns-in-Some-Letter c =

@@ -13,7 +13,8 @@ returns-else-is-2-clause-flags c =
     let at = c.loop-at.at in
     let mark = get_or c.args.marks.now at (Char 0) in
     flags-all (flags_of all) c.loop-at.every c.loop-at.once (shown_mark mark) (drop at all) (drop (at + 1) all) c.loop-at.invariant
-    (map-next shown_mark c.args.marks.now at (Char 0) (omega arith)) (sym c.is.ensures ∙ c.if-is.false) (sym c.is-else-is.ensures ∙ c.if-is-2.false)
+    (map-next shown_mark c.args.marks.now at (Char 0) (omega arith)) (sym c.is.ensures ∙ c.if-is.false)
+    (sym c.is-else-is.ensures ∙ c.if-is-2.false)
     ∙ ap (λ l. record { every = c.loop-at.every; once = c.loop-at.once; behind = l }) (sym (map-rest shown_mark c.args.marks.now at))
 
 pub loop-at-preserved : goal.loop-at-preserved
@@ -26,9 +27,11 @@ loop-at-preserved c =
     elim c.if-is.branch [
       | then-is w ↦
           subst₂ P (sym w.every-is) (sym w.once-is)
-          (flags-every (flags_of all) c.loop-at.every c.loop-at.once (shown_mark mark) (drop at all) (drop (at + 1) all) c.loop-at.invariant next (sym c.is.ensures ∙ w.if-is.true))
+          (flags-every (flags_of all) c.loop-at.every c.loop-at.once (shown_mark mark) (drop at all) (drop (at + 1) all) c.loop-at.invariant
+              next (sym c.is.ensures ∙ w.if-is.true))
       | else-is+then-is-2 w ↦
           subst₂ P (sym w.every-is) (sym w.once-is)
-          (flags-once (flags_of all) c.loop-at.every c.loop-at.once (shown_mark mark) (drop at all) (drop (at + 1) all) c.loop-at.invariant next (sym c.is.ensures ∙ w.if-is.false)
+          (flags-once (flags_of all) c.loop-at.every c.loop-at.once (shown_mark mark) (drop at all) (drop (at + 1) all) c.loop-at.invariant
+              next (sym c.is.ensures ∙ w.if-is.false)
           (sym w.is-else-is.ensures ∙ w.if-is-2.true))
     ]

@@ -16,7 +16,8 @@ returns-then-not-escaped-clause-read c =
     let mark = shown_mark (get_or c.args.marks.now at (Char 0)) in
     let colon : is_char 58 mark ≡ true = sym c.is.ensures ∙ c.if-is.true in
     let ends : (is_char 58 mark && not c.loop-at.escaped) ≡ true = rw (colon, c.if-not-escaped.true) in
-    pattern-all (pattern_from false all) (string_bytes c.loop-at.pattern) c.loop-at.escaped mark (drop at all) (drop (at + 1) all) c.loop-at.invariant
+    pattern-all (pattern_from false all) (string_bytes c.loop-at.pattern) c.loop-at.escaped mark (drop at all)
+        (drop (at + 1) all) c.loop-at.invariant
     (map-next shown_mark c.args.marks.now at (Char 0) (omega arith)) ends
     ∙ ap (λ l. (string_bytes c.loop-at.pattern, l)) (sym (map-rest shown_mark c.args.marks.now at))
 
@@ -27,9 +28,11 @@ loop-at-preserved c =
     let mark = shown_mark (get_or c.args.marks.now at (Char 0)) in
     let inside : (is_char 58 mark && not c.loop-at.escaped) ≡ false =
     elim c.else-is.branch [
-      | else-is-via-then-is+else-not-escaped w ↦ let was : c.loop-at.escaped ≡ true = w.if-not-escaped.false in rw was (and_right (is_char 58 mark) false refl)
+      | else-is-via-then-is+else-not-escaped w ↦ let was : c.loop-at.escaped ≡ true = w.if-not-escaped.false in rw was
+          (and_right (is_char 58 mark) false refl)
       | else-is-via-else-is w ↦ and_left (is_char 58 mark) (not c.loop-at.escaped) (sym c.is.ensures ∙ w.if-is.false)
     ] in
-    pattern-more (pattern_from false all) (string_bytes c.loop-at.pattern) (string_bytes c.write_to.new.text) c.loop-at.escaped mark (drop at all) (drop (at + 1) all) c.loop-at.invariant
+    pattern-more (pattern_from false all) (string_bytes c.loop-at.pattern) (string_bytes c.write_to.new.text) c.loop-at.escaped mark
+        (drop at all) (drop (at + 1) all) c.loop-at.invariant
     (map-next shown_mark c.args.marks.now at (Char 0) (omega arith)) inside c.in_ok-write_to.ensures
     ∙ ap (λ e. pattern_after (string_bytes c.write_to.new.text) (pattern_from e (drop (at + 1) all))) (sym c.is-escaped.ensures)

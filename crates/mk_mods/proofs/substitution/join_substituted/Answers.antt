@@ -15,10 +15,12 @@ returns-clause-ok c =
     let old = string_bytes c.in_ok-old.old in
     let new = string_bytes c.in_ok-new.new in
     let is_old : within_limit (text_of [] s.old) ≡ Some old =
-    ap (λ parts. within_limit (text_of [] (flat_map symbols_of parts))) (sym c.deref.ensures.value) ∙ within-made _ c.in_ok-old.old c.in_ok-old.ensures.ok in
+    ap (λ parts. within_limit (text_of [] (flat_map symbols_of parts))) (sym c.deref.ensures.value)
+        ∙ within-made _ c.in_ok-old.old c.in_ok-old.ensures.ok in
     let is_new : within_limit (text_of old s.new) ≡ Some new =
     ap (λ parts. within_limit (text_of old (flat_map symbols_of parts))) (sym c.deref-2.ensures.value)
-    ∙ ap (λ o. within_limit (text_of o (flat_map symbols_of c.deref-2.result.now))) (sym c.as_str.ensures.value) ∙ within-made _ c.in_ok-new.new c.in_ok-new.ensures.ok in
+    ∙ ap (λ o. within_limit (text_of o (flat_map symbols_of c.deref-2.result.now))) (sym c.as_str.ensures.value)
+    ∙ within-made _ c.in_ok-new.new c.in_ok-new.ensures.ok in
     subst (λ o. IfOk c.join_replaced.result (λ made. o ≡ Some (string_bytes made))) (sym (substituted-by s words old new is_old is_new))
     (ok-within c.join_replaced.result (joined (substituted s old new words))
     (rw (c.as_str-2.ensures.value, c.as_str-3.ensures.value) at c.join_replaced.ensures.ok))
@@ -30,10 +32,12 @@ returns-clause-err c =
     let old = string_bytes c.in_ok-old.old in
     let new = string_bytes c.in_ok-new.new in
     let is_old : within_limit (text_of [] s.old) ≡ Some old =
-    ap (λ parts. within_limit (text_of [] (flat_map symbols_of parts))) (sym c.deref.ensures.value) ∙ within-made _ c.in_ok-old.old c.in_ok-old.ensures.ok in
+    ap (λ parts. within_limit (text_of [] (flat_map symbols_of parts))) (sym c.deref.ensures.value)
+        ∙ within-made _ c.in_ok-old.old c.in_ok-old.ensures.ok in
     let is_new : within_limit (text_of old s.new) ≡ Some new =
     ap (λ parts. within_limit (text_of old (flat_map symbols_of parts))) (sym c.deref-2.ensures.value)
-    ∙ ap (λ o. within_limit (text_of o (flat_map symbols_of c.deref-2.result.now))) (sym c.as_str.ensures.value) ∙ within-made _ c.in_ok-new.new c.in_ok-new.ensures.ok in
+    ∙ ap (λ o. within_limit (text_of o (flat_map symbols_of c.deref-2.result.now))) (sym c.as_str.ensures.value)
+    ∙ within-made _ c.in_ok-new.new c.in_ok-new.ensures.ok in
     subst (λ o. IfErr c.join_replaced.result (IsUnmade o)) (sym (substituted-by s words old new is_old is_new))
     (err-within c.join_replaced.result (joined (substituted s old new words))
     (rw (c.as_str-2.ensures.value, c.as_str-3.ensures.value) at c.join_replaced.ensures.err))
@@ -43,7 +47,9 @@ returns-in_err-new-clause-err c =
     let s = replacement_of c.args.substitution.now in
     let old = string_bytes c.in_ok-old.old in
     let is_old : within_limit (text_of [] s.old) ≡ Some old =
-    ap (λ parts. within_limit (text_of [] (flat_map symbols_of parts))) (sym c.deref.ensures.value) ∙ within-made _ c.in_ok-old.old c.in_ok-old.ensures.ok in
+    ap (λ parts. within_limit (text_of [] (flat_map symbols_of parts))) (sym c.deref.ensures.value)
+        ∙ within-made _ c.in_ok-old.old c.in_ok-old.ensures.ok in
     let p = err_from_is_err_and c.from_residual-in_err-new.result c.from_residual-in_err-new.ensures.1 in
     rw (p.1, p.2)
-    (substituted-unmade s (words_of c.args.value.now) old _ is_old (rw (c.as_str.ensures.value, c.deref-2.ensures.value) at c.in_err-new.ensures.err))
+    (substituted-unmade s (words_of c.args.value.now) old _ is_old (rw (c.as_str.ensures.value, c.deref-2.ensures.value) at
+        c.in_err-new.ensures.err))

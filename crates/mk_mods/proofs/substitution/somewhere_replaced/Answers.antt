@@ -5,7 +5,8 @@ use Rattle.mk_mods.proofs.Replacing.{cut-of, somewhere-none, somewhere-all, some
 use Rattle.mk_mods.proofs.substitution.somewhere_replaced.Goals as goal
 
 pub returns-in-None-clause-ok : goal.returns-in-None-clause-ok
-returns-in-None-clause-ok c = somewhere-none c.args.every c.args.old.now c.args.new.now c.args.word.now (cut-of c.args.old.now c.args.word.now None c.in-None.ensures.cases)
+returns-in-None-clause-ok c = somewhere-none c.args.every c.args.old.now c.args.new.now c.args.word.now
+    (cut-of c.args.old.now c.args.word.now None c.in-None.ensures.cases)
 
 pub returns-in_ok-all_replaced-in-Some-clause-ok : goal.returns-in_ok-all_replaced-in-Some-clause-ok
 returns-in_ok-all_replaced-in-Some-clause-ok c =

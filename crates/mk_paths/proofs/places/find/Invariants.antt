@@ -5,4 +5,5 @@ use Rattle.mk_paths.proofs.Placing.{IsUnderway}
 use Rattle.mk_paths.proofs.places.find.Given as goal
 
 abbrev pub invariant-loop-tree : goal.invariant-loop-tree
-invariant-loop-tree g l = IsUnderway (g.N.Names.view l.fn.names) (g.N.Names.view l.names) (map string_bytes (drop l.tree-index l.trees)) (map string_bytes l.trees) l.directory
+invariant-loop-tree g l = IsUnderway (g.N.Names.view l.fn.names) (g.N.Names.view l.names) (map string_bytes (drop l.tree-index l.trees))
+    (map string_bytes l.trees) l.directory

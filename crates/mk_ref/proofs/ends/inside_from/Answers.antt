@@ -4,15 +4,19 @@ use Rattle.std.proofs.lemmas.Bool.{eq-eqb, ne_eqb}
 use Rattle.mk_ref.specs.Ends.{AtomEndsAt}
 use Rattle.mk_ref.proofs.InsideSteps.{InsideSoFar, colon_after, inside-more, inside-close, inside-broken, inside-end}
 use Rattle.mk_ref.proofs.ends.inside_from.Goals as goal
-use Rattle.mk_ref.proofs.ends.inside_from.Goals.{then-bytes-at-eq58+then-is_none, else-bytes-at-eq58, else-bytes-at-eq58-via-then-bytes-at-eq58+else-is_none, else-bytes-at-eq58-via-else-bytes-at-eq58}
+use Rattle.mk_ref.proofs.ends.inside_from.Goals.{then-bytes-at-eq58+then-is_none, else-bytes-at-eq58}
+use Rattle.mk_ref.proofs.ends.inside_from.Goals.{else-bytes-at-eq58-via-then-bytes-at-eq58+else-is_none}
+use Rattle.mk_ref.proofs.ends.inside_from.Goals.{else-bytes-at-eq58-via-else-bytes-at-eq58}
 
 pub returns-then-bytes-at : goal.returns-then-bytes-at
 returns-then-bytes-at c =
-    inside-close c.args.bytes.now c.args.start c.args.closing c.loop-at.colon c.loop-at.at c.loop-at.invariant c.loop-at-test.true c.if-bytes-at.true
+    inside-close c.args.bytes.now c.args.start c.args.closing c.loop-at.colon c.loop-at.at c.loop-at.invariant
+        c.loop-at-test.true c.if-bytes-at.true
 
 pub returns-in-None : goal.returns-in-None
 returns-in-None c =
-    inside-broken c.args.bytes.now c.args.start c.args.closing c.loop-at.colon c.loop-at.at c.loop-at.invariant c.loop-at-test.true c.if-bytes-at.false
+    inside-broken c.args.bytes.now c.args.start c.args.closing c.loop-at.colon c.loop-at.at c.loop-at.invariant
+        c.loop-at-test.true c.if-bytes-at.false
     (subst (AtomEndsAt c.args.bytes.now c.loop-at.at) c.in-None.is c.in_ok-behind.ensures)
 
 -- the first colon so far, at this byte
@@ -36,12 +40,14 @@ loop-at-preserved c =
     let at = c.loop-at.at in
     let behind = c.in-Some.behind in
     let b = get_or text at 0 in
-    let more = inside-more text c.args.start c.args.closing c.loop-at.colon at behind c.loop-at.invariant c.loop-at-test.true c.if-bytes-at.false
+    let more = inside-more text c.args.start c.args.closing c.loop-at.colon at behind c.loop-at.invariant
+        c.loop-at-test.true c.if-bytes-at.false
     (subst (AtomEndsAt text at) c.in-Some.is c.in_ok-behind.ensures) in
     let P : Option ℕ → Type 0 = λ o. InsideSoFar text c.args.start c.args.closing o behind in
     elim c.if-bytes-at-eq58.branch [
       | then-bytes-at-eq58+then-is_none w ↦
-          subst P (sym (w.colon-is ∙ first_here c.loop-at.colon b at (w.is_none.ensures ∙ ap not w.if-is_none.true) w.if-bytes-at-eq58.true)) more
+          subst P (sym (w.colon-is ∙ first_here c.loop-at.colon b at (w.is_none.ensures ∙ ap not w.if-is_none.true)
+              w.if-bytes-at-eq58.true)) more
       | else-bytes-at-eq58 w ↦
           elim w.else-bytes-at-eq58.branch [
             | else-bytes-at-eq58-via-then-bytes-at-eq58+else-is_none v ↦

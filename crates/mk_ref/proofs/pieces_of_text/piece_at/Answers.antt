@@ -6,7 +6,8 @@ use Rattle.mk_ref.proofs.PieceSteps.{piece_escaped_dollar, piece_letter, piece_m
 use Rattle.mk_ref.proofs.pieces_of_text.piece_at.Goals as goal
 
 pub returns-in-Doubled : goal.returns-in-Doubled
-returns-in-Doubled c = piece_escaped_dollar c.args.text.now c.args.at c.utf8.text c.requires.room (c.requires.opens ∙ ap Some c.in-Doubled.is)
+returns-in-Doubled c = piece_escaped_dollar c.args.text.now c.args.at c.utf8.text c.requires.room
+    (c.requires.opens ∙ ap Some c.in-Doubled.is)
 
 pub returns-in-Letter : goal.returns-in-Letter
 returns-in-Letter c = piece_letter c.args.text.now c.args.at c.utf8.text c.requires.room (c.requires.opens ∙ ap Some c.in-Letter.is)

@@ -6,4 +6,5 @@ use Rattle.mk_step.proofs.blank_lines.skip_blank_lines.Given as goal
 
 -- up to here all lines are blank
 abbrev pub invariant-loop-at : goal.invariant-loop-at
-invariant-loop-at l = (site : Site) (others : List Frame) → DoTheSame (Lines site (block_of (drop l.from l.nodes)) ∷ others) (Lines site (block_of (drop l.at l.nodes)) ∷ others)
+invariant-loop-at l = (site : Site) (others : List Frame) → DoTheSame (Lines site (block_of (drop l.from l.nodes)) ∷ others)
+    (Lines site (block_of (drop l.at l.nodes)) ∷ others)

@@ -15,12 +15,16 @@ returns-in-Ok-More g c =
     let name = c.args.name.now in
     let flavors = flavors_in c.args.flavors in
     let machine = c.in-Ok-More.machine in
-    let begun = subst (λ turned. Leaves may old middle (old.files, settings) name flavors [] (Ok turned)) c.in-Ok-More.field-0-is c.in-Ok-More.ensures.leaves in
+    let begun = subst (λ turned. Leaves may old middle (old.files, settings) name flavors [] (Ok turned)) c.in-Ok-More.field-0-is
+        c.in-Ok-More.ensures.leaves in
     let free = subst (λ turned. IsNew (Ok turned)) c.in-Ok-More.field-0-is c.in-Ok-More.ensures.free in
     let has = under-way may old new settings name flavors middle machine begun in
     record {
-      means = turned-tells may old new settings name flavors middle machine begun c.turn.result (c.turn.ensures.means settings name flavors begun.more has);
-      leaves = turned-leaves may old new settings name flavors middle machine begun c.turn.result (c.turn.ensures.leaves settings name flavors begun.more has);
-      spent = has-spent machine.budget.spent 50001 c.turn.result (spends-has middle.files 50001 machine c.turn.result c.turn.ensures.spends) free;
+      means = turned-tells may old new settings name flavors middle machine begun c.turn.result
+          (c.turn.ensures.means settings name flavors begun.more has);
+      leaves = turned-leaves may old new settings name flavors middle machine begun c.turn.result
+          (c.turn.ensures.leaves settings name flavors begun.more has);
+      spent = has-spent machine.budget.spent 50001 c.turn.result (spends-has middle.files 50001 machine c.turn.result c.turn.ensures.spends)
+          free;
       parses = g.met.P.Parses.goes_on _ _ _ c.in-Ok-More.ensures.parses c.turn.ensures.parses;
     }

@@ -3,7 +3,8 @@ use Rattle.mk_text.specs.declared.word_spans.Span.{Span}
 use Rattle.mk_text.specs.Blanks.{is_blank}
 use Rattle.mk_text.proofs.WordSteps.{WordsSoFar, AllWords, so_far-none, so_far-more, so_far-word, so_far-gap, all-word, all-found}
 use Rattle.mk_text.proofs.word_spans.words.Goals as goal
-use Rattle.mk_text.proofs.word_spans.words.Goals.{then-is_blank, then-start-at+in_ok-push, else-start-at, else-is_blank, then-start-text+in_ok-push-2, else-start-text}
+use Rattle.mk_text.proofs.word_spans.words.Goals.{then-is_blank, then-start-at+in_ok-push, else-start-at, else-is_blank}
+use Rattle.mk_text.proofs.word_spans.words.Goals.{then-start-text+in_ok-push-2, else-start-text}
 
 pub loop-at-init : goal.loop-at-init
 loop-at-init c = subst (λ l. WordsSoFar c.args.text.now l 0 0) (sym c.new-spans.ensures.items) (so_far-none c.args.text.now c.utf8.text)
@@ -31,7 +32,8 @@ loop-at-preserved c =
                 (so_far-gap text found start at so_far c.utf8.text near blank v.if-start-at.false)
           ]
       | else-is_blank w ↦
-          subst₂ P (sym (ap (λ s. s.items) w.spans-is)) (sym w.start-is) (so_far-more text found start at so_far (test ∙ w.if-is_blank.false))
+          subst₂ P (sym (ap (λ s. s.items) w.spans-is)) (sym w.start-is)
+              (so_far-more text found start at so_far (test ∙ w.if-is_blank.false))
     ]
 
 every : (c : goal.Joined-start-text) → AllWords c.args.text.now c.if-start-text.spans.items
@@ -44,8 +46,10 @@ every c =
     let so_far = subst (λ n. WordsSoFar text found start n) end c.loop-at.invariant in
     elim c.if-start-text.branch [
       | then-start-text+in_ok-push-2 w ↦
-          subst (λ l. AllWords text l) (sym (ap (λ s. s.items) w.spans-is ∙ w.in_ok-push-2.ensures.items)) (all-word text found start so_far w.if-start-text.true)
-      | else-start-text w ↦ subst (λ l. AllWords text l) (sym (ap (λ s. s.items) w.spans-is)) (all-found text found start so_far w.if-start-text.false)
+          subst (λ l. AllWords text l) (sym (ap (λ s. s.items) w.spans-is ∙ w.in_ok-push-2.ensures.items))
+              (all-word text found start so_far w.if-start-text.true)
+      | else-start-text w ↦ subst (λ l. AllWords text l) (sym (ap (λ s. s.items) w.spans-is))
+          (all-found text found start so_far w.if-start-text.false)
     ]
 
 pub returns-clause-spans : goal.returns-clause-spans

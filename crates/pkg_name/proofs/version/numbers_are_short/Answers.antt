@@ -21,7 +21,8 @@ loop-byte-preserved c =
         c.if-digits-gt-MOST_DIGITS.false,
       )
       | else-is_ascii_digit w ↦ (
-        read ∙ fits_after-other c.loop-byte.digits (get_or text at 0) behind (sym c.is_ascii_digit.ensures.value ∙ w.if-is_ascii_digit.false) c.loop-byte.invariant.1
+        read ∙ fits_after-other c.loop-byte.digits (get_or text at 0) behind (sym c.is_ascii_digit.ensures.value
+            ∙ w.if-is_ascii_digit.false) c.loop-byte.invariant.1
             ∙ ap (λ digits. fits_after digits behind) (sym w.digits-is),
         c.if-digits-gt-MOST_DIGITS.false,
       )
@@ -29,5 +30,6 @@ loop-byte-preserved c =
 
 pub returns : goal.returns
 returns c =
-    sym (c.loop-byte.invariant.0 ∙ at_drop_all (λ rest. fits_after c.loop-byte.digits rest) c.args.text.now c.loop-byte.byte-index c.loop-byte-test.false
+    sym (c.loop-byte.invariant.0 ∙ at_drop_all (λ rest. fits_after c.loop-byte.digits rest) c.args.text.now
+        c.loop-byte.byte-index c.loop-byte-test.false
     ∙ fits_after-end c.loop-byte.digits c.loop-byte.invariant.1)

@@ -4,7 +4,8 @@ use Rattle.pkg_name.proofs.ShortNumbers.{short-take, short-drop, short-digits, p
 use Rattle.pkg_name.proofs.version_order.take_number.Goals as goal
 
 pub number-requires-clause-digits : goal.number-requires-clause-digits
-number-requires-clause-digits c = rw (c.split_at.ensures.front, c.digits_at_front.ensures.value) (prefix_passes is_ascii_digit c.args.text.now)
+number-requires-clause-digits c = rw (c.split_at.ensures.front, c.digits_at_front.ensures.value)
+    (prefix_passes is_ascii_digit c.args.text.now)
 
 pub number-requires-clause-few : goal.number-requires-clause-few
 number-requires-clause-few c =

@@ -6,7 +6,8 @@ use Rattle.std.specs.Str.{bytes_eq}
 use Rattle.std.specs.String.{string_bytes, string_eq}
 use Rattle.pkg_path.proofs.flavors.same_names.Goals as goal
 
-by_bytes : (names others : List (String Global)) → pointwise string_eq names others ≡ pointwise bytes_eq (map string_bytes names) (map string_bytes others)
+by_bytes : (names others : List (String Global)) → pointwise string_eq names others ≡ pointwise bytes_eq (map string_bytes names)
+    (map string_bytes others)
 by_bytes [] [] = refl
 by_bytes [] (other ∷ others) = refl
 by_bytes (name ∷ names) [] = refl

@@ -7,4 +7,5 @@ use Rattle.text_parts.specs.Cuts.{now_all}
 use Rattle.pkg_spec.proofs.alternatives.wanted_of.Given as goal
 
 abbrev pub invariant-loop-flavor : goal.invariant-loop-flavor
-invariant-loop-flavor l = map string_bytes l.wanted.items ≡ filter (λ flavor. not (forbids flavor)) (now_all (take l.flavor-index l.flavors))
+invariant-loop-flavor l = map string_bytes l.wanted.items ≡ filter (λ flavor. not (forbids flavor))
+    (now_all (take l.flavor-index l.flavors))

@@ -7,4 +7,5 @@ use Rattle.pkg_spec.specs.Seen.{comparison_seen}
 use Rattle.pkg_spec.proofs.comparisons.read_comparisons.Given as goal
 
 abbrev pub invariant-loop-text : goal.invariant-loop-text
-invariant-loop-text l = (list_all is_comparison (now_all (take l.text-index l.texts)) ≡ true) × (map comparison_seen l.comparisons.items ≡ map signed (now_all (take l.text-index l.texts)))
+invariant-loop-text l = (list_all is_comparison (now_all (take l.text-index l.texts)) ≡ true)
+    × (map comparison_seen l.comparisons.items ≡ map signed (now_all (take l.text-index l.texts)))

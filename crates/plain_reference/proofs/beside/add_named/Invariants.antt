@@ -5,4 +5,5 @@ use Rattle.port_index.specs.Dependencies.{target_by}
 use Rattle.plain_reference.proofs.beside.add_named.Given as goal
 
 abbrev pub invariant-loop-depend : goal.invariant-loop-depend
-invariant-loop-depend l = map string_bytes l.paths.items ≡ map string_bytes l.initial.paths.items ++ filter_map target_by (take l.depend-index l.depends)
+invariant-loop-depend l = map string_bytes l.paths.items ≡ map string_bytes l.initial.paths.items ++ filter_map target_by
+    (take l.depend-index l.depends)

@@ -19,7 +19,8 @@ loop-path-preserved c =
       beside = c.in_ok-add_targets.ensures
           ∙ ap (λ outcome. map string_bytes c.loop-path.beside.items ++ targets_in outcome) row
           ∙ ap (λ before. before ++ targets (string_bytes c.path-item.result)) c.loop-path.invariant.beside
-          ∙ sym (flat_map-more targets string_bytes c.args.listed.now c.loop-path.path-index c.path-item.result c.loop-path-test.true c.path-item.is);
+          ∙ sym (flat_map-more targets string_bytes c.args.listed.now c.loop-path.path-index c.path-item.result
+              c.loop-path-test.true c.path-item.is);
     }
 
 pub returns : goal.returns
@@ -28,5 +29,6 @@ returns c =
     let known = known_in (entries_in c.args.rows.now) in
     let targets = λ (path : List ℕ). targets_in (known path) in
     ap (λ beside. in_order (listed ++ beside))
-    (c.loop-path.invariant.beside ∙ ap (λ texts. flat_map targets (map string_bytes texts)) (take_all c.loop-path.path-index c.args.listed.now c.loop-path-test.false)
+    (c.loop-path.invariant.beside ∙ ap (λ texts. flat_map targets (map string_bytes texts))
+        (take_all c.loop-path.path-index c.args.listed.now c.loop-path-test.false)
     ∙ targets-among known listed)

@@ -9,5 +9,6 @@ use Rattle.plain_reference.proofs.beside.paths_beside.Given as goal
 abbrev pub invariant-loop-path : goal.invariant-loop-path
 invariant-loop-path l = record {
   finder : IsFinderOf l.rows l.finder;
-  beside : map string_bytes l.beside.items ≡ flat_map (λ path. targets_in (known_in (entries_in l.rows) path)) (map string_bytes (take l.path-index l.listed));
+  beside : map string_bytes l.beside.items ≡ flat_map (λ path. targets_in (known_in (entries_in l.rows) path))
+      (map string_bytes (take l.path-index l.listed));
 }

@@ -12,7 +12,9 @@ abbrev pub invariant-loop-path : goal.invariant-loop-path
 invariant-loop-path g l = record {
   right : AreOutcomes ((g.F.Names.view l.initial.files).files, l.settings) (entries_in l.rows);
   stay : Stay (entries_in l.initial.rows) (entries_in l.rows);
-  fills : Fills ((g.F.Names.view l.initial.files).files, l.settings) (map string_bytes (take l.path-index l.paths)) (entries_in l.initial.rows) (entries_in l.rows);
-  effort : l.effort ≡ effort_over ((g.F.Names.view l.initial.files).files, l.settings) (lacking (entries_in l.initial.rows) (map string_bytes (take l.path-index l.paths)));
+  fills : Fills ((g.F.Names.view l.initial.files).files, l.settings) (map string_bytes (take l.path-index l.paths))
+      (entries_in l.initial.rows) (entries_in l.rows);
+  effort : l.effort ≡ effort_over ((g.F.Names.view l.initial.files).files, l.settings)
+      (lacking (entries_in l.initial.rows) (map string_bytes (take l.path-index l.paths)));
   keeps : KeepsFiles None (g.F.Names.view l.initial.files) (g.F.Names.view l.files);
 }

@@ -13,7 +13,8 @@ use Rattle.plain_reference.proofs.WorkLemmas.{Effort-on, lacking-all}
 use Rattle.plain_reference.proofs.index.index_files.Goals as goal
 
 -- paths that are filled in after the listed ones, where both are those that are needed
-needed-filled : (world : World) (beside : List (List ℕ)) (old middle new : Entries) → needed_with (listed_paths world) beside ≡ needed_paths world
+needed-filled : (world : World) (beside : List (List ℕ)) (old middle new : Entries)
+    → needed_with (listed_paths world) beside ≡ needed_paths world
     → Fills world (listed_paths world) old middle → Fills world beside middle new → Fills world (needed_paths world) old new
 needed-filled world beside old middle new is first second =
     subst (λ paths. Fills world paths old new) is
@@ -31,13 +32,15 @@ returns-clause-known g c =
     let end = entries_in c.fill.new.rows in
     let beside = map string_bytes c.in_ok-beside.beside.items in
     let first = c.in_ok-directories.ensures.fills in
-    let listed_are : map string_bytes c.deref.result.now ≡ listed_paths world = ap (map string_bytes) c.deref.ensures.value ∙ c.in_ok-directories.ensures.listed in
+    let listed_are : map string_bytes c.deref.result.now ≡ listed_paths world = ap (map string_bytes) c.deref.ensures.value
+        ∙ c.in_ok-directories.ensures.listed in
     let needed_are : needed_with (listed_paths world) beside ≡ needed_paths world =
     subst (λ listed. needed_with listed beside ≡ needed_among (known_in middle) listed) listed_are c.in_ok-beside.ensures
     ∙ c.known_rows_are_enough.ensures.needed world middle (say-filled world (listed_paths world) start middle first) in
     let second : Fills world beside middle end =
     subst (λ paths. Fills world paths middle end) (ap (map string_bytes) c.deref-2.ensures.value)
-    (subst (λ files. Fills (files, settings) (map string_bytes c.deref-2.result.now) middle end) c.in_ok-directories.ensures.keeps.files c.in_ok-more.ensures.fills) in
+    (subst (λ files. Fills (files, settings) (map string_bytes c.deref-2.result.now) middle end) c.in_ok-directories.ensures.keeps.files
+        c.in_ok-more.ensures.fills) in
     record {
       paths = record {
         directories = c.in_ok-directories.ensures.directories;
@@ -56,7 +59,8 @@ returns-clause-effort g c =
     let middle = entries_in c.list.new.rows in
     let beside = map string_bytes c.in_ok-beside.beside.items in
     let first = c.in_ok-directories.ensures.fills in
-    let listed_are : map string_bytes c.deref.result.now ≡ listed_paths world = ap (map string_bytes) c.deref.ensures.value ∙ c.in_ok-directories.ensures.listed in
+    let listed_are : map string_bytes c.deref.result.now ≡ listed_paths world = ap (map string_bytes) c.deref.ensures.value
+        ∙ c.in_ok-directories.ensures.listed in
     let needed_are : needed_with (listed_paths world) beside ≡ needed_paths world =
     subst (λ listed. needed_with listed beside ≡ needed_among (known_in middle) listed) listed_are c.in_ok-beside.ensures
     ∙ c.known_rows_are_enough.ensures.needed world middle (say-filled world (listed_paths world) start middle first) in
@@ -66,4 +70,5 @@ returns-clause-effort g c =
     (c.in_ok-more.ensures.effort ∙ ap₂ more c.in_ok-directories.ensures.keeps.files (ap (map string_bytes) c.deref-2.ensures.value))
     ∙ Effort-on world (listed_paths world) beside start middle first
     ∙ ap (effort_over world)
-    (lacking-all start (λ path. ap (option_map (λ (said : Said). said.outcome)) (c.new-rows.ensures.none path)) (listed_paths world ++ beside) ∙ needed_are)
+    (lacking-all start (λ path. ap (option_map (λ (said : Said). said.outcome)) (c.new-rows.ensures.none path))
+        (listed_paths world ++ beside) ∙ needed_are)

@@ -10,7 +10,8 @@ row item kind path status subpackage =
     object (member (codes "item") (string item) (member (codes "kind") (string kind) (member (codes "path") (string path)
     (member (codes "status") (string status) (member (codes "subpackage") (string subpackage) no_members)))))
 
-same : (path : List ℕ) {item kind status subpackage item' kind' status' subpackage' : List ℕ} → item ≡ item' → kind ≡ kind' → status ≡ status' → subpackage ≡ subpackage'
+same : (path : List ℕ) {item kind status subpackage item' kind' status' subpackage' : List ℕ} → item ≡ item' → kind ≡ kind'
+    → status ≡ status' → subpackage ≡ subpackage'
     → row item kind path status subpackage ≡ row item' kind' path status' subpackage'
 same path a b c d = rw (a, b, c, d) refl
 
@@ -18,4 +19,5 @@ pub returns : goal.returns
 returns c =
     let kind = c.as_str.ensures ∙ ap word_of_kind c.kind.ensures in
     let status = c.as_str-2.ensures ∙ ap status_word c.status.ensures in
-    subst (λ value. OnOk c.write_object.result (AddsValue c.args.out.now c.write_object.new.out value)) (same c.args.root.now c.item.ensures kind status c.subpackage.ensures) c.write_object.ensures
+    subst (λ value. OnOk c.write_object.result (AddsValue c.args.out.now c.write_object.new.out value))
+        (same c.args.root.now c.item.ensures kind status c.subpackage.ensures) c.write_object.ensures

@@ -6,4 +6,5 @@ use Rattle.plain_service.specs.JsonText.{HasItems}
 use Rattle.plain_service.proofs.list_bodies.dependents.Given as goal
 
 abbrev pub invariant-loop-edge : goal.invariant-loop-edge
-invariant-loop-edge l = HasItems l.out (codes "rdeps") (map (λ (edge : Bor RootEdgeValue). dependent_body edge.now) (take l.edge-index l.edges))
+invariant-loop-edge l = HasItems l.out (codes "rdeps") (map (λ (edge : Bor RootEdgeValue). dependent_body edge.now)
+    (take l.edge-index l.edges))

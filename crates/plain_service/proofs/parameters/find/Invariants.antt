@@ -10,4 +10,5 @@ abbrev pub invariant-loop-pair : goal.invariant-loop-pair
 invariant-loop-pair l =
     (goal.iterator-loop-pair).can_next l.pair-iterator ×
     (goal.iterator-loop-pair).is_finite l.pair-iterator ×
-    (values_under l.name l.query ≡ option_to_list (option_map cow_str_bytes l.found) ++ filter_map (value_under l.name) (pairs_left l.pair-iterator))
+    (values_under l.name l.query ≡ option_to_list (option_map cow_str_bytes l.found) ++ filter_map (value_under l.name)
+        (pairs_left l.pair-iterator))

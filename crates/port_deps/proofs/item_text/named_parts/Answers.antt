@@ -17,4 +17,5 @@ pub returns-in-None : goal.returns-in-None
 returns-in-None c =
     let text = c.args.text.now in
     let some : (length text == 0) ≡ false = sym c.is_empty.ensures ∙ c.if-is_empty.false in
-    sym (ap named_parts (all_kept text some c.requires ∙ without_colon text (split_once_first 58 text None c.in-None.ensures.cases (lit< tt))))
+    sym (ap named_parts (all_kept text some c.requires
+        ∙ without_colon text (split_once_first 58 text None c.in-None.ensures.cases (lit< tt))))

@@ -12,7 +12,8 @@ use Rattle.port_index.proofs.makefiles.makefiles_are_there.Goals as goal
 abbrev IsThere : FileMap → List ℕ → Type 0
 IsThere files name = is_makefile name ≡ true → contains_key files name ≡ true
 
-next_name : (files : FileMap) (item name : List ℕ) (same : Bool) → bytes_eq item name ≡ same → IsThere files item → ((same || false) ≡ false → IsThere files name) → IsThere files name
+next_name : (files : FileMap) (item name : List ℕ) (same : Bool) → bytes_eq item name ≡ same → IsThere files item
+    → ((same || false) ≡ false → IsThere files name) → IsThere files name
 next_name files item name true e there passed = subst (IsThere files) ((bytes_eq-Decides item name).0 e) there
 next_name files item name false e there passed = passed refl
 
@@ -35,4 +36,5 @@ loop-name-preserved g c =
 
 pub returns-clause-there : goal.returns-clause-there
 returns-clause-there g c = λ are name changed.
-    c.loop-name.invariant.3 name (sym (changed-named c.args.names.now name) ∙ changed) (ap (λ names. is_one_of name (map string_bytes names)) c.in-None.ensures.steps.0)
+    c.loop-name.invariant.3 name (sym (changed-named c.args.names.now name) ∙ changed)
+        (ap (λ names. is_one_of name (map string_bytes names)) c.in-None.ensures.steps.0)

@@ -8,8 +8,10 @@ pub loop-path-preserved : goal.loop-path-preserved
 loop-path-preserved c =
     let entries = entries_in c.args.rows.now in
     let finder = c.loop-path.invariant.finder in
-    let here = ap₂ (λ path row. root_with path (root_state (known_row row))) c.deref.ensures (c.get.ensures.row c.args.rows.now finder ∙ ap entries c.deref-in-loop-path.ensures) in record {
+    let here = ap₂ (λ path row. root_with path (root_state (known_row row))) c.deref.ensures (c.get.ensures.row c.args.rows.now finder
+        ∙ ap entries c.deref-in-loop-path.ensures) in record {
       finder = c.get.ensures.finder c.args.rows.now finder;
-      found = filter-next (root_at (known_in entries)) string_bytes c.args.paths.now c.loop-path.path-index c.path-item.result (string_bytes c.path-item.result) [] c.loop-path.found.items
+      found = filter-next (root_at (known_in entries)) string_bytes c.args.paths.now c.loop-path.path-index c.path-item.result
+          (string_bytes c.path-item.result) [] c.loop-path.found.items
           c.add_root.new.found.items _ c.loop-path-test.true c.path-item.is refl c.loop-path.invariant.found here c.in_ok-add_root.ensures;
     }

@@ -9,5 +9,6 @@ use Rattle.port_index.proofs.tree_paths.named_by_all.Given as goal
 abbrev pub invariant-loop-directory : goal.invariant-loop-directory
 invariant-loop-directory l = record {
   finder : IsFinderOf l.rows l.finder;
-  found : map string_bytes l.found.items ≡ flat_map (named_at (known_in (entries_in l.rows))) (map string_bytes (take l.directory-index l.directories));
+  found : map string_bytes l.found.items ≡ flat_map (named_at (known_in (entries_in l.rows)))
+      (map string_bytes (take l.directory-index l.directories));
 }

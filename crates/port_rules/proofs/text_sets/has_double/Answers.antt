@@ -11,7 +11,8 @@ returns-then-not-branch c =
     let among : held ≡ is_among (string_bytes c.text-item.result) (map string_bytes (take c.loop-text.text-index c.args.texts.now)) =
     ap (holds c.loop-text.before) c.as_str.ensures.value ∙ c.loop-text.invariant.held (string_bytes c.text-item.result) in
     sym (has_double-found c.args.texts.now (c.loop-text.text-index + 1)
-    (has_double-next c.args.texts.now c.loop-text.text-index c.text-item.result held c.loop-text-test.true c.text-item.is among c.loop-text.invariant.apart
+    (has_double-next c.args.texts.now c.loop-text.text-index c.text-item.result held c.loop-text-test.true c.text-item.is among
+        c.loop-text.invariant.apart
     ∙ not-new c.in_ok-insert.field-0 held c.in_ok-insert.ensures.new c.if-not-branch.true))
 
 pub loop-text-preserved : goal.loop-text-preserved
@@ -24,6 +25,7 @@ loop-text-preserved c =
           ∙ ap (λ put. bytes_eq text put || holds c.loop-text.before text) c.as_str.ensures.value
           ∙ ap (λ found. bytes_eq text (string_bytes c.text-item.result) || found) (c.loop-text.invariant.held text)
           ∙ sym (is_among-more c.args.texts.now c.loop-text.text-index c.text-item.result text c.loop-text-test.true c.text-item.is);
-      apart = has_double-next c.args.texts.now c.loop-text.text-index c.text-item.result held c.loop-text-test.true c.text-item.is among c.loop-text.invariant.apart
+      apart = has_double-next c.args.texts.now c.loop-text.text-index c.text-item.result held c.loop-text-test.true c.text-item.is among
+          c.loop-text.invariant.apart
           ∙ new c.in_ok-insert.field-0 held c.in_ok-insert.ensures.new c.if-not-branch.false;
     }

@@ -7,4 +7,5 @@ use Rattle.ports_core.proofs.history.replay.Given as goal
 
 -- the steps so far are a run of the events so far
 abbrev pub invariant-loop-index : goal.invariant-loop-index
-invariant-loop-index g l = Run (new_state (key_texts l.fn.config.keys.items) (sizes_of l.fn.config)) (take l.index l.events) l.steps.items l.service
+invariant-loop-index g l = Run (new_state (key_texts l.fn.config.keys.items) (sizes_of l.fn.config))
+    (take l.index l.events) l.steps.items l.service

@@ -1,6 +1,7 @@
 use Rattle.std.proofs.Common.{arith}
 use Rattle.ports_http.proofs.OneMoreLemmas.{begins_when, open_after, nothing_begins, return_begins}
-use Rattle.ports_http.proofs.field_limit.begins_one_more.Goals.{then-at-eq0-via-then-at-eq0, then-at-eq0-via-else-at-eq0+then-at-bytes, then-at-eq0-via-else-at-eq0+else-at-bytes+then-bytes-at-eq13}
+use Rattle.ports_http.proofs.field_limit.begins_one_more.Goals.{then-at-eq0-via-then-at-eq0, then-at-eq0-via-else-at-eq0+then-at-bytes}
+use Rattle.ports_http.proofs.field_limit.begins_one_more.Goals.{then-at-eq0-via-else-at-eq0+else-at-bytes+then-bytes-at-eq13}
 use Rattle.ports_http.proofs.field_limit.begins_one_more.Goals as goal
 
 pub returns-then-at-eq0-clause-no : goal.returns-then-at-eq0-clause-no

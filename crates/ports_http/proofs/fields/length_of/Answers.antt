@@ -19,17 +19,21 @@ digits value is = (and_parts _ (list_all is_ascii_digit value) is).1
 length-IsUtf8 : (value : List ℕ) → is_length value ≡ true → IsUtf8 value
 length-IsUtf8 value is = IsUtf8-from_ascii value (IsAscii-from_digits value (decimal_numerals.to value (digits value is)))
 
-parsed : {E : Type 0} (text value : List ℕ) (r : Result ℕ E) → ParsesUnsigned 64 10 text r → text ≡ value → is_length value ≡ true → result_ok r ≡ Some (digits_value 10 value)
+parsed : {E : Type 0} (text value : List ℕ) (r : Result ℕ E) → ParsesUnsigned 64 10 text r → text ≡ value → is_length value ≡ true
+    → result_ok r ≡ Some (digits_value 10 value)
 parsed text value r h same is =
     let sizes = and_parts _ _ (and_parts _ (list_all is_ascii_digit value) is).0 in
     let some : 1 ≤ length value = leb-true 1 (length value) sizes.0 in
     let few : length value ≤ 18 = leb-true (length value) 18 sizes.1 in
-    ap result_ok (parse_gives decimal_numerals 64 value r (rw same at h) (digits value is) (omega arith) (omega (arith, digits_value_short decimal_numerals value 18 (digits value is) few)))
+    ap result_ok (parse_gives decimal_numerals 64 value r (rw same at h) (digits value is) (omega arith)
+        (omega (arith, digits_value_short decimal_numerals value 18 (digits value is) few)))
 
 pub returns-in_default : goal.returns-in_default
-returns-in_default c = absurd (c.in_default.ensures.cases.0 (length-IsUtf8 c.args.value.now (sym c.is_length.ensures ∙ c.if-not-is_length.false)))
+returns-in_default c =
+    absurd (c.in_default.ensures.cases.0 (length-IsUtf8 c.args.value.now (sym c.is_length.ensures ∙ c.if-not-is_length.false)))
 
 pub returns : goal.returns
 returns c =
     let is : is_length c.args.value.now ≡ true = sym c.is_length.ensures ∙ c.if-not-is_length.false in
-    rw is (c.ok.ensures.value ∙ parsed c.in-Ok.digits.now c.args.value.now c.parse.result c.parse.ensures.value.0 c.in-Ok.ensures.cases.0 is)
+    rw is (c.ok.ensures.value ∙ parsed c.in-Ok.digits.now c.args.value.now c.parse.result c.parse.ensures.value.0
+        c.in-Ok.ensures.cases.0 is)

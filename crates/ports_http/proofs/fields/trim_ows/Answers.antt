@@ -2,7 +2,8 @@ use Rattle.std.proofs.Common.{◌≡◌, ℕ, List, length, reverse, slice_range
 use Rattle.std.proofs.lemmas.List.{reverse-reverse}
 use Rattle.httparse.specs.Grammar.{skip_ows, trim_ows}
 use Rattle.httparse.proofs.TrimLemmas.{skip_ows_yes, skip_ows_no, slice_first, slice_last, slice_empty}
-use Rattle.ports_http.proofs.fields.trim_ows.Goals.{then-loop-start-test+else-is_ows, else-loop-start-test, then-loop-end-test+else-is_ows-2, else-loop-end-test}
+use Rattle.ports_http.proofs.fields.trim_ows.Goals.{then-loop-start-test+else-is_ows, else-loop-start-test}
+use Rattle.ports_http.proofs.fields.trim_ows.Goals.{then-loop-end-test+else-is_ows-2, else-loop-end-test}
 use Rattle.ports_http.proofs.fields.trim_ows.Goals as goal
 
 pub loop-end-init : goal.loop-end-init

@@ -3,7 +3,8 @@ use Rattle.std.proofs.lemmas.List.{take_all}
 use Rattle.ports_http.specs.Limits.{head_limit}
 use Rattle.ports_http.specs.Streams.{BeginsOneMore}
 use Rattle.ports_http.proofs.StreamLemmas.{head_waits}
-use Rattle.ports_http.proofs.first.before_head.Goals.{then-unread-ge-HEAD_LIMIT-via-then-unread-ge-HEAD_LIMIT, then-unread-ge-HEAD_LIMIT-via-else-unread-ge-HEAD_LIMIT+then-begins_one_more}
+use Rattle.ports_http.proofs.first.before_head.Goals.{then-unread-ge-HEAD_LIMIT-via-then-unread-ge-HEAD_LIMIT}
+use Rattle.ports_http.proofs.first.before_head.Goals.{then-unread-ge-HEAD_LIMIT-via-else-unread-ge-HEAD_LIMIT+then-begins_one_more}
 use Rattle.ports_http.proofs.first.before_head.Goals as goal
 
 pub begins_one_more-requires : goal.begins_one_more-requires

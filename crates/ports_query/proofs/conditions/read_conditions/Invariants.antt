@@ -6,4 +6,5 @@ use Rattle.ports_query.proofs.Reading.{in_front}
 use Rattle.ports_query.proofs.conditions.read_conditions.Given as goal
 
 abbrev pub invariant-loop-text : goal.invariant-loop-text
-invariant-loop-text l = conditions_of (now_all l.texts) ≡ in_front (map condition_seen l.conditions.items) (conditions_of (drop l.text-index (now_all l.texts)))
+invariant-loop-text l = conditions_of (now_all l.texts) ≡ in_front (map condition_seen l.conditions.items)
+    (conditions_of (drop l.text-index (now_all l.texts)))

@@ -8,6 +8,7 @@ use Rattle.ports_serve.proofs.rounds.read_all.Given as goal
 -- the connections so far were read
 abbrev pub invariant-loop-conn : goal.invariant-loop-conn
 invariant-loop-conn g l = record {
-  going : Underway g.W.Wire.after l.heard (Each ReadsOnce (connections_of l.fn.service)) (Each ReadsOnce (drop l.conn-index (connections_of l.fn.service))) l.fn.wire l.fn.service l.wire l.service;
+  going : Underway g.W.Wire.after l.heard (Each ReadsOnce (connections_of l.fn.service))
+      (Each ReadsOnce (drop l.conn-index (connections_of l.fn.service))) l.fn.wire l.fn.service l.wire l.service;
   buffer : IsBuffer l.buffer;
 }

@@ -9,7 +9,8 @@ loop-round-init g c =
     record {
       going = (
         false,
-        subst (λ left. Underway g.W.Wire.after false (Rounds c.args.rounds false) (Rounds left false) c.args.wire.now c.args.service c.args.wire.now c.args.service) whole
+        subst (λ left. Underway g.W.Wire.after false (Rounds c.args.rounds false) (Rounds left false) c.args.wire.now c.args.service
+            c.args.wire.now c.args.service) whole
             (begins g.W.Wire.after (Rounds c.args.rounds false) c.args.wire.now c.args.service),
       );
       buffer = c.in_ok-buffer.ensures.capacity;
@@ -24,8 +25,10 @@ loop-round-preserved g c =
     record {
       going = (
         (underway.0 || brings c.round-left.ensures.goes.course),
-        goes_through g.W.Wire.after underway.0 (brings c.round-left.ensures.goes.course) c.args.wire.now l.wire c.round-left.new.wire c.args.service l.service c.round-left.new.service
-            (round_then (c.args.rounds - l._round) (c.args.rounds - (l._round + 1)) l.idle c.round-left.result.1 l.service c.round-left.new.service next)
+        goes_through g.W.Wire.after underway.0 (brings c.round-left.ensures.goes.course) c.args.wire.now l.wire c.round-left.new.wire
+            c.args.service l.service c.round-left.new.service
+            (round_then (c.args.rounds - l._round) (c.args.rounds - (l._round + 1)) l.idle c.round-left.result.1 l.service
+                c.round-left.new.service next)
             underway.1 went,
       );
       buffer = c.round-left.ensures.buffer;

@@ -14,13 +14,20 @@ pub returns-in-NotAllowed-clause-front : goal.returns-in-NotAllowed-clause-front
 returns-in-NotAllowed-clause-front g c = rw c.in-NotAllowed.is c.say_line-in-NotAllowed.ensures.front
 
 pub returns-in-CannotWrite-clause-written : goal.returns-in-CannotWrite-clause-written
-returns-in-CannotWrite-clause-written g c = rw (c.in-CannotWrite.is, ← c.as_bytes-in-CannotWrite.ensures.value) c.write_whole-in-CannotWrite.ensures.written
+returns-in-CannotWrite-clause-written g c = rw (c.in-CannotWrite.is, ← c.as_bytes-in-CannotWrite.ensures.value)
+    c.write_whole-in-CannotWrite.ensures.written
 
 pub returns-in-CannotWrite-clause-front : goal.returns-in-CannotWrite-clause-front
-returns-in-CannotWrite-clause-front g c = rw c.in-CannotWrite.is (front_along (g.E.Write.contents c.args.err.now) (g.E.Write.contents c.write_whole-in-CannotWrite.new.out) c.as_bytes-in-CannotWrite.result.now (failure_text failures.CannotWrite) c.write_whole-in-CannotWrite.result c.as_bytes-in-CannotWrite.ensures.value c.write_whole-in-CannotWrite.ensures.front)
+returns-in-CannotWrite-clause-front g c = rw c.in-CannotWrite.is
+    (front_along (g.E.Write.contents c.args.err.now) (g.E.Write.contents c.write_whole-in-CannotWrite.new.out)
+    c.as_bytes-in-CannotWrite.result.now (failure_text failures.CannotWrite) c.write_whole-in-CannotWrite.result
+    c.as_bytes-in-CannotWrite.ensures.value c.write_whole-in-CannotWrite.ensures.front)
 
 pub returns-in-Memory-clause-written : goal.returns-in-Memory-clause-written
 returns-in-Memory-clause-written g c = rw (c.in-Memory.is, ← c.as_bytes-in-Memory.ensures.value) c.write_whole-in-Memory.ensures.written
 
 pub returns-in-Memory-clause-front : goal.returns-in-Memory-clause-front
-returns-in-Memory-clause-front g c = rw c.in-Memory.is (front_along (g.E.Write.contents c.args.err.now) (g.E.Write.contents c.write_whole-in-Memory.new.out) c.as_bytes-in-Memory.result.now (failure_text (failures.Memory refused)) c.write_whole-in-Memory.result c.as_bytes-in-Memory.ensures.value c.write_whole-in-Memory.ensures.front)
+returns-in-Memory-clause-front g c =
+    rw c.in-Memory.is (front_along (g.E.Write.contents c.args.err.now) (g.E.Write.contents c.write_whole-in-Memory.new.out)
+    c.as_bytes-in-Memory.result.now (failure_text (failures.Memory refused)) c.write_whole-in-Memory.result
+    c.as_bytes-in-Memory.ensures.value c.write_whole-in-Memory.ensures.front)

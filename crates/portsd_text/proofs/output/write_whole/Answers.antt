@@ -8,10 +8,12 @@ loop-preserved g c =
     elim c.match-write.branch [
       | in-Ok w ↦ (
         omega (arith, w.in-Ok.ensures.bound, length-left_of c.args.bytes.now c.loop.done, w.done-is, c.loop.invariant.0),
-        goes_on (g.W.Write.contents c.args.out.now) _ (g.W.Write.contents c.write.new.self) c.args.bytes.now c.loop.done w.in-Ok.count c.match-write.done w.done-is c.loop.invariant.1 w.in-Ok.ensures.bytes,
+        goes_on (g.W.Write.contents c.args.out.now) _ (g.W.Write.contents c.write.new.self) c.args.bytes.now c.loop.done w.in-Ok.count
+            c.match-write.done w.done-is c.loop.invariant.1 w.in-Ok.ensures.bytes,
       )
       | in-Err w ↦ (
         omega (arith, w.done-is, c.loop.invariant.0),
-        stays (g.W.Write.contents c.args.out.now) _ (g.W.Write.contents c.write.new.self) c.args.bytes.now c.loop.done c.match-write.done w.done-is c.loop.invariant.1 w.in-Err.ensures.bytes,
+        stays (g.W.Write.contents c.args.out.now) _ (g.W.Write.contents c.write.new.self) c.args.bytes.now c.loop.done c.match-write.done
+            w.done-is c.loop.invariant.1 w.in-Err.ensures.bytes,
       )
     ]

@@ -20,4 +20,5 @@ loop-at-preserved c =
     rw (c.in_ok-push.ensures.items, c.in_ok-extend_from_slice.ensures.items) (more ∙ c.loop-at.invariant)
 
 pub returns : goal.returns
-returns c = rw c.in_ok-extend_from_slice-2.ensures.items (sym (unescaped-end c.loop-at.bytes.items c.loop-at.rest.now (sym c.in_default.ensures)) ∙ c.loop-at.invariant)
+returns c = rw c.in_ok-extend_from_slice-2.ensures.items
+    (sym (unescaped-end c.loop-at.bytes.items c.loop-at.rest.now (sym c.in_default.ensures)) ∙ c.loop-at.invariant)

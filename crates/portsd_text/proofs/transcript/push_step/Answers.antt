@@ -6,4 +6,5 @@ pub returns : goal.returns
 unfolding printed
 returns c =
     rw (← c.step.view_is, ← c.as_slice.ensures.value)
-    (four_pushed c.push_closed.result _ _ _ _ _ _ _ _ _ c.in_ok-push_sent.ensures c.in_ok-push_told.ensures c.in_ok-push_refused.ensures c.push_closed.ensures)
+    (four_pushed c.push_closed.result _ _ _ _ _ _ _ _ _ c.in_ok-push_sent.ensures c.in_ok-push_told.ensures
+        c.in_ok-push_refused.ensures c.push_closed.ensures)

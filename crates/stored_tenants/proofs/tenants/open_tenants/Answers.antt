@@ -14,7 +14,10 @@ loop-preserved c =
     let tenant = c.in_ok-open_tenant.field-0 in
     record {
       count = ap length c.in_ok-add_tenant.ensures ∙ omega (arith, c.loop.invariant.count, length-append tenants (tenant ∷ []));
-      right = subst AreRightTenants (sym c.in_ok-add_tenant.ensures) (added_right tenants tenant c.loop.invariant.right c.in_ok-open_tenant.ensures.right);
-      worlds = subst HaveOpeningWorlds (sym c.in_ok-add_tenant.ensures) (opening_added tenants tenant c.loop.invariant.worlds c.in_ok-open_tenant.ensures.opens.same);
-      jobs = subst HaveNoJob (sym c.in_ok-add_tenant.ensures) (no_jobs tenants tenant c.loop.invariant.jobs (ap (option_map seen_job) c.in_ok-open_tenant.ensures.opens.none));
+      right = subst AreRightTenants (sym c.in_ok-add_tenant.ensures)
+          (added_right tenants tenant c.loop.invariant.right c.in_ok-open_tenant.ensures.right);
+      worlds = subst HaveOpeningWorlds (sym c.in_ok-add_tenant.ensures)
+          (opening_added tenants tenant c.loop.invariant.worlds c.in_ok-open_tenant.ensures.opens.same);
+      jobs = subst HaveNoJob (sym c.in_ok-add_tenant.ensures)
+          (no_jobs tenants tenant c.loop.invariant.jobs (ap (option_map seen_job) c.in_ok-open_tenant.ensures.opens.none));
     }

@@ -16,7 +16,8 @@ returns-then-number-tenants-clause-right c = λ before.
     let keeper = c.put_away in
     let inside : number < length tenants = omega (arith, c.if-number-tenants.true) in
     set_right tenants number (record old { keeper = keeper.new.self }) inside before
-    (limited old (world_of old) keeper.new.self refl keeper.ensures.rows keeper.ensures.begun (keeper.ensures.kept (world_of old)) (right_at tenants number any inside before))
+    (limited old (world_of old) keeper.new.self refl keeper.ensures.rows keeper.ensures.begun (keeper.ensures.kept (world_of old))
+        (right_at tenants number any inside before))
 
 pub returns-then-number-tenants-clause-worlds : goal.returns-then-number-tenants-clause-worlds
 returns-then-number-tenants-clause-worlds c =
@@ -37,4 +38,5 @@ returns-then-number-tenants-clause-rows c =
     let tenants = c.args.tenants.now in
     let any = c.index-tenants-number.result in
     let inside : c.args.number < length tenants = omega (arith, c.if-number-tenants.true) in
-    rows_kept tenants c.args.number any (record (get_or tenants c.args.number any) { keeper = c.put_away.new.self }) inside c.put_away.ensures.rows
+    rows_kept tenants c.args.number any (record (get_or tenants c.args.number any) { keeper = c.put_away.new.self })
+        inside c.put_away.ensures.rows

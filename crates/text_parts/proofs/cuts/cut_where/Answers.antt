@@ -5,7 +5,8 @@ use Rattle.std.specs.Str.{IsCharBoundary, IsUtf8}
 use Rattle.text_parts.specs.Cuts.{IsMarkAt}
 use Rattle.text_parts.proofs.cuts.cut_where.Goals as goal
 
-after_mark : (mark : ℕ) (bytes text : List ℕ) (at : ℕ) → mark < 128 → IsUtf8 text → bytes ≡ text → IsMarkAt mark bytes at → IsCharBoundary text (at + 1)
+after_mark : (mark : ℕ) (bytes text : List ℕ) (at : ℕ) → mark < 128 → IsUtf8 text → bytes ≡ text → IsMarkAt mark bytes at
+    → IsCharBoundary text (at + 1)
 after_mark mark bytes text at low utf8 same is =
     let long = ap length same in
     let inside = is.inside in
@@ -13,4 +14,5 @@ after_mark mark bytes text at low utf8 same is =
     IsCharBoundary-after_ascii text at utf8 (omega (arith, long, inside)) (omega (arith, stands, low))
 
 pub range_from-requires : goal.range_from-requires
-range_from-requires g c = λ _. after_mark c.args.mark c.as_bytes.result.now c.args.text.now c.in_ok-at.at c.requires.ascii c.utf8.text c.as_bytes.ensures.value c.in_ok-at.ensures.at
+range_from-requires g c = λ _. after_mark c.args.mark c.as_bytes.result.now c.args.text.now c.in_ok-at.at c.requires.ascii c.utf8.text
+    c.as_bytes.ensures.value c.in_ok-at.ensures.at

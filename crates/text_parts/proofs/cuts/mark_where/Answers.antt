@@ -14,10 +14,13 @@ pub returns-then-passes-clause-first : goal.returns-then-passes-clause-first
 returns-then-passes-clause-first g c = λ test answers.
     let text = c.args.text.now in
     let at = c.loop-at.at in
-    let passed : test (drop (at + 1) text) ≡ true = sym (answers (drop (at + 1) text) c.passes.result (record { shown = _; shows = take_rest text (at + 1); says = record { met = c.passes.ensures } })) ∙ c.if-passes.true in
+    let passed : test (drop (at + 1) text) ≡ true =
+        sym (answers (drop (at + 1) text) c.passes.result
+        (record { shown = _; shows = take_rest text (at + 1); says = record { met = c.passes.ensures } })) ∙ c.if-passes.true in
     c.loop-at.invariant test answers
     ∙ from_here-found c.args.mark test text at c.loop-at-test.true
-    (and_from (get_or text at 0 == c.args.mark) (test (drop (at + 1) text)) (eq-eqb (get_or text at 0) c.args.mark c.if-text-at.true) passed)
+    (and_from (get_or text at 0 == c.args.mark) (test (drop (at + 1) text)) (eq-eqb (get_or text at 0) c.args.mark c.if-text-at.true)
+        passed)
 
 pub loop-at-preserved : goal.loop-at-preserved
 loop-at-preserved g c = λ test answers.
@@ -28,10 +31,12 @@ loop-at-preserved g c = λ test answers.
     (elim c.else-text-at.branch [
       | else-text-at-via-then-text-at+else-passes w ↦
           and_right (get_or text at 0 == c.args.mark) (test (drop (at + 1) text))
-          (sym (answers (drop (at + 1) text) w.passes.result (record { shown = _; shows = take_rest text (at + 1); says = record { met = w.passes.ensures } })) ∙ w.if-passes.false)
+          (sym (answers (drop (at + 1) text) w.passes.result
+              (record { shown = _; shows = take_rest text (at + 1); says = record { met = w.passes.ensures } })) ∙ w.if-passes.false)
       | else-text-at-via-else-text-at w ↦
           and_left (get_or text at 0 == c.args.mark) (test (drop (at + 1) text)) (ne_eqb (get_or text at 0) c.args.mark w.if-text-at.false)
     ])
 
 pub returns-clause-first : goal.returns-clause-first
-returns-clause-first g c = λ test answers. c.loop-at.invariant test answers ∙ from_here-end c.args.mark test c.args.text.now c.loop-at.at c.loop-at-test.false
+returns-clause-first g c = λ test answers. c.loop-at.invariant test answers ∙ from_here-end c.args.mark test c.args.text.now
+    c.loop-at.at c.loop-at-test.false

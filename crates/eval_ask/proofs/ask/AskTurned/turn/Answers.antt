@@ -14,10 +14,12 @@ returns-in_ok-turn-in-More-clause-turns g c =
     record {
       comes = search rules;
       up = search rules;
-      unchecked = subst (λ (old : AskTurned). (spent_in came).checks ≡ (spent_in old).checks) (sym c.in-More.is) (unchecked-turn files c.args.units c.in-More.ask came turns);
+      unchecked = subst (λ (old : AskTurned). (spent_in came).checks ≡ (spent_in old).checks) (sym c.in-More.is)
+          (unchecked-turn files c.args.units c.in-More.ask came turns);
       enough = search rules;
       in_time = λ key come.
-          subst (λ (old : AskTurned). EvaluatesInTime (files, key.settings) (Some (pair_for key)) c.args.units (spent_in old) (spent_in came)) (sym c.in-More.is)
+          subst (λ (old : AskTurned). EvaluatesInTime (files, key.settings) (Some (pair_for key)) c.args.units (spent_in old)
+              (spent_in came)) (sym c.in-More.is)
           (in-time files key c.args.units c.in-More.ask came (subst (HasComeTo files key) c.in-More.is come) turns);
       whole = subst (λ (old : AskTurned). TellsWhole old came) (sym c.in-More.is) (whole-turn files c.args.units c.in-More.ask came turns);
     }

@@ -13,7 +13,8 @@ use Rattle.eval_cache.proofs.cache.EvalCache.look.Goals as goal
 pub invariant_of-self : goal.invariant_of-self
 invariant_of-self g c = record {
   trees = c.self.invariant.trees;
-  evaluations = subst (λ cache. AreRightForKeys cache.entries) (sym c.promote-there.ensures.entries) (AreRightForKeys-promoted c.self.inside.evals.entries c.args.key.now c.self.invariant.evaluations);
+  evaluations = subst (λ cache. AreRightForKeys cache.entries) (sym c.promote-there.ensures.entries)
+      (AreRightForKeys-promoted c.self.inside.evals.entries c.args.key.now c.self.invariant.evaluations);
 }
 
 pub returns-in-Some-clause-looks : goal.returns-in-Some-clause-looks

@@ -10,20 +10,24 @@ use Rattle.index_keep.specs.Turns.{refresh_at}
 use Rattle.index_keep.proofs.keeper.Keeper.ask_on.Goals as goal
 
 pub settle-requires : goal.settle-requires
-settle-requires g c = subst (λ (before : Spent). IsUpTo before c.in_ok-turned.turned) (sym c.spent-before.ensures.is) c.in_ok-turned.ensures.up
+settle-requires g c = subst (λ (before : Spent). IsUpTo before c.in_ok-turned.turned) (sym c.spent-before.ensures.is)
+    c.in_ok-turned.ensures.up
 
 pub returns-clause-turn : goal.returns-clause-turn
 returns-clause-turn g c = λ settings way.
     let world : World = ((view_of g.F.Names.view c.args.files.now).files, settings) in
     let path = path_evaluated c.args.asking.ask in
     let old = shown no_name (g.R.PathRows.entries c.args.self.now.rows) in
-    let turns = subst (λ (before : Spent). TurnsPath world path c.args.units before c.in_ok-turned.turned) (sym c.spent-before.ensures.is) (c.in_ok-turned.ensures.turns settings way.under) in
-    subst (λ (before : Spent). IfOk c.settle.result (TurnsKeeper g.R.PathRows.entries world c.args.units (refresh_at old before) c.settle.new.self)) c.spent-before.ensures.is
+    let turns = subst (λ (before : Spent). TurnsPath world path c.args.units before c.in_ok-turned.turned) (sym c.spent-before.ensures.is)
+        (c.in_ok-turned.ensures.turns settings way.under) in
+    subst (λ (before : Spent). IfOk c.settle.result (TurnsKeeper g.R.PathRows.entries world c.args.units (refresh_at old before)
+        c.settle.new.self)) c.spent-before.ensures.is
     (c.settle.ensures.settles world path c.args.units way.ready turns)
 
 pub returns-clause-kept : goal.returns-clause-kept
 returns-clause-kept g c = λ settings way.
     let world : World = ((view_of g.F.Names.view c.args.files.now).files, settings) in
     let path = path_evaluated c.args.asking.ask in
-    let turns = subst (λ (before : Spent). TurnsPath world path c.args.units before c.in_ok-turned.turned) (sym c.spent-before.ensures.is) (c.in_ok-turned.ensures.turns settings way.under) in
+    let turns = subst (λ (before : Spent). TurnsPath world path c.args.units before c.in_ok-turned.turned) (sym c.spent-before.ensures.is)
+        (c.in_ok-turned.ensures.turns settings way.under) in
     c.settle.ensures.kept world path c.args.units way.ready turns

@@ -15,7 +15,8 @@ returns-in_ok-walk-in-Made-clause-settles g c = λ world path units ready turns.
     let made = subst (TurnsPath world path units c.args.before) c.in-Made.is turns in
     let spent = c.spent_since.result in
     record {
-      turn = evaluates-made world old new c.args.writing.walk path ready c.in-Made.made made.come c.in_ok-walk-in-Made.ensures.rows units c.args.before spent c.spent_since.ensures made.in_time made.short;
+      turn = evaluates-made world old new c.args.writing.walk path ready c.in-Made.made made.come c.in_ok-walk-in-Made.ensures.rows units
+          c.args.before spent c.spent_since.ensures made.in_time made.short;
       done = λ done. absurd cc;
     }
 
@@ -26,7 +27,8 @@ returns-in_ok-walk-in-Made-clause-kept g c = λ world path units ready turns.
     let made = subst (TurnsPath world path units c.args.before) c.in-Made.is turns in
     record {
       rows = kept-made world old new c.args.writing.walk path ready c.in-Made.made made.come c.in_ok-walk-in-Made.ensures.rows;
-      progress = c.in_ok-walk-in-Made.ensures.walk world old new ready.far (more-made world old new c.args.writing.walk path ready c.in-Made.made made.come c.in_ok-walk-in-Made.ensures.rows);
+      progress = c.in_ok-walk-in-Made.ensures.walk world old new ready.far (more-made world old new c.args.writing.walk path ready
+          c.in-Made.made made.come c.in_ok-walk-in-Made.ensures.rows);
     }
 
 pub returns-in-More-clause-settles : goal.returns-in-More-clause-settles
@@ -35,7 +37,8 @@ returns-in-More-clause-settles g c = λ world path units ready turns.
     let more = subst (TurnsPath world path units c.args.before) c.in-More.is turns in
     let ask = c.in-More.ask in
     let spent = c.spent_since-spent.result in
-    let within = subst (λ (spent : Spent). spent.units ≤ cost_at world path) c.spent.ensures.is (c.spent.ensures.within world path more.come.0) in
+    let within = subst (λ (spent : Spent). spent.units ≤ cost_at world path) c.spent.ensures.is
+        (c.spent.ensures.within world path more.come.0) in
     let all = c.spent_since-spent.ensures ∙ c.spent.ensures.is in
     record {
       turn = goes-on world old path units c.args.before spent ask ready.lacking more.come.0 more.come.1 within all more.in_time more.short;

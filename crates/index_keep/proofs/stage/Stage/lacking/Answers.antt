@@ -26,8 +26,10 @@ loop-place-preserved-then-is_some g c =
     ap (λ path. is_some (entries_in known path)) (sym c.as_str-path.ensures.value) ∙ ap is_some (sym c.get.ensures)
     ∙ some-map _ c.get.result ∙ sym c.is_some.ensures ∙ c.if-is_some.true in
     record {
-      passed = λ passed path one. passes-more (λ at. is_some (decided world (entries_in known) at)) texts place text inside c.index.ensures (decided-known world (entries_in known) (string_bytes text) some)
-          (λ at among. before.passed passed at (ap (is_one_of at) (take-map string_bytes place texts) ∙ among)) path (sym (ap (is_one_of path) (take-map string_bytes (place + 1) texts)) ∙ one);
+      passed = λ passed path one. passes-more (λ at. is_some (decided world (entries_in known) at)) texts place text inside c.index.ensures
+          (decided-known world (entries_in known) (string_bytes text) some)
+          (λ at among. before.passed passed at (ap (is_one_of at) (take-map string_bytes place texts) ∙ among)) path
+          (sym (ap (is_one_of path) (take-map string_bytes (place + 1) texts)) ∙ one);
       leaves = before.leaves;
     }
 
@@ -45,7 +47,8 @@ returns-in-Some-clause-comes g c = λ passed.
     let is = subst (IsFoundOf now path) c.in-Some.is c.in_ok-found.ensures.found in (
       before.passed passed,
       record {
-        among = ap (λ at. is_one_of at (paths_of c.args.self.now)) (is.0 ∙ c.as_str-path.ensures.value) ∙ one_of-place texts place text inside c.index.ensures;
+        among = ap (λ at. is_one_of at (paths_of c.args.self.now)) (is.0 ∙ c.as_str-path.ensures.value)
+            ∙ one_of-place texts place text inside c.index.ensures;
         lacking = ap (entries_in known) is.0 ∙ sym c.get.ensures
             ∙ ap (option_map _) (none-of c.get.result (sym c.is_some.ensures ∙ c.if-is_some.false));
         found = subst (λ (files : FileMap). let w : World = (files, c.args.settings.now) in IsFoundAt w found) before.leaves.files is.1;
@@ -65,10 +68,14 @@ loop-place-preserved g c =
     let now : World = view_world (view_of g.F.Names.view c.loop-place.files) c.args.settings.now in
     let gone : has_makefile now path ≡ false = subst (IsFoundOf now path) c.in_default.is c.in_ok-found.ensures.found in
     let absent : has_makefile world (string_bytes text) ≡ false =
-    ap (has_makefile world) (sym c.as_str-path.ensures.value) ∙ subst (λ (files : FileMap). let w : World = (files, c.args.settings.now) in has_makefile w path ≡ false) before.leaves.files gone in
+    ap (has_makefile world) (sym c.as_str-path.ensures.value)
+        ∙ subst (λ (files : FileMap). let w : World = (files, c.args.settings.now) in has_makefile w path ≡ false)
+        before.leaves.files gone in
     record {
-      passed = λ passed at one. passes-more (λ at. is_some (decided world (entries_in known) at)) texts place text inside c.index.ensures (decided-absent world (entries_in known) (string_bytes text) absent)
-          (λ at among. before.passed passed at (ap (is_one_of at) (take-map string_bytes place texts) ∙ among)) at (sym (ap (is_one_of at) (take-map string_bytes (place + 1) texts)) ∙ one);
+      passed = λ passed at one. passes-more (λ at. is_some (decided world (entries_in known) at)) texts place text inside c.index.ensures
+          (decided-absent world (entries_in known) (string_bytes text) absent)
+          (λ at among. before.passed passed at (ap (is_one_of at) (take-map string_bytes place texts) ∙ among)) at
+          (sym (ap (is_one_of at) (take-map string_bytes (place + 1) texts)) ∙ one);
       leaves = record {
         files = c.in_ok-found.ensures.leaves.files ∙ before.leaves.files;
         failures = c.in_ok-found.ensures.leaves.failures ∙ before.leaves.failures;

@@ -10,7 +10,8 @@ invariant_of-self c =
     let old = state_of c.self.inside.conn in
     let new = state_of c.read_rows.new.conn in (
       still_with c.self.inside.has_earlier old new c.self.invariant.0 c.read_rows.ensures.stays,
-      subst (λ es. AreNotedPaths c.self.inside.paths (stored_by es)) (sym (still_entries old new c.read_rows.ensures.stays)) c.self.invariant.1,
+      subst (λ es. AreNotedPaths c.self.inside.paths (stored_by es)) (sym (still_entries old new c.read_rows.ensures.stays))
+          c.self.invariant.1,
     )
 
 pub returns-clause-same : goal.returns-clause-same

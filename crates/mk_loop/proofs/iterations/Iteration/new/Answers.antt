@@ -8,7 +8,8 @@ use Rattle.mk_loop.proofs.IterationSteps.{length-iterations, iteration-at, itera
 use Rattle.mk_loop.proofs.iterations.Iteration.new.Goals as goal
 
 -- the words of the iteration of an index below their number are there
-fits : {X Y : Type 0} (f : X → List ℕ) (g : Y → List ℕ) (xs : List X) (ys : List Y) (index : ℕ) → index < length (iterations_of (map f xs) (map g ys)) → index * length xs + length xs ≤ length ys
+fits : {X Y : Type 0} (f : X → List ℕ) (g : Y → List ℕ) (xs : List X) (ys : List Y) (index : ℕ)
+    → index < length (iterations_of (map f xs) (map g ys)) → index * length xs + length xs ≤ length ys
 fits f g xs ys index below =
     iteration-within index (length xs) (length ys)
     (subst (λ n. index < length ys / n) (length-map xs f) (subst (λ n. index < n / length (map f xs)) (length-map ys g)
@@ -17,7 +18,8 @@ fits f g xs ys index below =
 pub invariant_of-result : goal.invariant_of-result
 invariant_of-result c =
     let iterations = c.args.iterations.value in
-    record { inside = fits string_bytes (span_text (string_bytes iterations.text)) iterations.names.items iterations.words.items c.args.index c.requires }
+    record { inside = fits string_bytes (span_text (string_bytes iterations.text)) iterations.names.items iterations.words.items
+        c.args.index c.requires }
 
 pub returns : goal.returns
 returns c =
@@ -27,4 +29,5 @@ returns c =
     let below = subst (λ n. c.args.index < n) (length-iterations (length words / length names) names words) c.requires in
     iteration-at (length words / length names) c.args.index names words below
     ∙ ap (λ n. Some (zip names (drop (c.args.index * n) words))) (length-map iterations.names.items string_bytes)
-    ∙ ap (λ l. Some (zip names l)) (drop-map (span_text (string_bytes iterations.text)) (c.args.index * length iterations.names.items) iterations.words.items)
+    ∙ ap (λ l. Some (zip names l))
+        (drop-map (span_text (string_bytes iterations.text)) (c.args.index * length iterations.names.items) iterations.words.items)

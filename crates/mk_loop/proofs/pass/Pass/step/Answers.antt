@@ -40,4 +40,5 @@ pub returns-in-None-clause-paid : goal.returns-in-None-clause-paid
 returns-in-None-clause-paid c = same-paid c.args.self c.on.result c.args.budget.now (ap (λ next. next.copied) c.on.ensures)
 
 pub returns-in-Some-Doubled-clause-paid : goal.returns-in-Some-Doubled-clause-paid
-returns-in-Some-Doubled-clause-paid c = same-paid c.args.self c.on-in-Some-Doubled.result c.args.budget.now (ap (λ next. next.copied) c.on-in-Some-Doubled.ensures)
+returns-in-Some-Doubled-clause-paid c = same-paid c.args.self c.on-in-Some-Doubled.result c.args.budget.now
+    (ap (λ next. next.copied) c.on-in-Some-Doubled.ensures)

@@ -10,5 +10,6 @@ returns-in_err-words-clause-gives c = λ files log.
     let p = err_from_is_err_and c.from_residual.result c.from_residual.ensures.1 in
     rw (p.1, p.2)
     (modules-stop c.here-here.result files c.args.self.now.makefile (site_of c.args.site.value)
-    (c.here-here.ensures.place files ∙ ap (λ site. place_at files c.args.self.now.makefile (site_of site)) c.deref.ensures) (frames_of c.args.self.now.frames.items) c.args.self.now.state c.args.self.now.budget log c.args.line
+    (c.here-here.ensures.place files ∙ ap (λ site. place_at files c.args.self.now.makefile (site_of site)) c.deref.ensures)
+    (frames_of c.args.self.now.frames.items) c.args.self.now.state c.args.self.now.budget log c.args.line
     c.in_err-words.field-0.0 c.module_words.new.budget c.in_err-words.ensures.gives)

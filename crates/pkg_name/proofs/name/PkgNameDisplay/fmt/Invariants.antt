@@ -9,4 +9,5 @@ abbrev pub invariant-loop-flavor : goal.invariant-loop-flavor
 invariant-loop-flavor g l =
     IsPlainFormatter l.fn.f
     → HasWritten g.W.Write.write_str_gives l.fn.f
-    (name_text (record { stem = l.self.stem; version = l.self.version; flavors = map string_bytes (take l.flavor-index l.flavor-items) })) l.f
+    (name_text (record { stem = l.self.stem; version = l.self.version; flavors = map string_bytes (take l.flavor-index l.flavor-items) }))
+        l.f

@@ -8,7 +8,8 @@ use Rattle.port_index.proofs.memory_rows.RowFinder.search.Goals as goal
 pub loop-self-preserved : goal.loop-self-preserved
 loop-self-preserved c = λ rows is.
     let new : RowFinder = record { rows = c.loop-self.self.rows; ahead = c.next-self.result; left = c.next-self.new.self } in
-    finder-passed rows c.loop-self.self new (c.in-Some.key, c.in-Some.known) (c.loop-self.invariant rows is) c.in-Some.is refl c.next-self.ensures.steps
+    finder-passed rows c.loop-self.self new (c.in-Some.key, c.in-Some.known) (c.loop-self.invariant rows is) c.in-Some.is refl
+        c.next-self.ensures.steps
 
 pub returns-in-Equal-clause-row : goal.returns-in-Equal-clause-row
 returns-in-Equal-clause-row c = λ rows is.
@@ -17,5 +18,7 @@ returns-in-Equal-clause-row c = λ rows is.
 
 pub returns-in-Equal-clause-finder : goal.returns-in-Equal-clause-finder
 returns-in-Equal-clause-finder c = λ rows is.
-    let new : RowFinder = record { rows = c.loop-self.self.rows; ahead = c.next-self-in-Equal.result; left = c.next-self-in-Equal.new.self } in
-    finder-passed rows c.loop-self.self new (c.in-Some.key, c.in-Some.known) (c.loop-self.invariant rows is) c.in-Some.is refl c.next-self-in-Equal.ensures.steps
+    let new : RowFinder = record { rows = c.loop-self.self.rows; ahead = c.next-self-in-Equal.result; left = c.next-self-in-Equal.new.self }
+        in
+    finder-passed rows c.loop-self.self new (c.in-Some.key, c.in-Some.known) (c.loop-self.invariant rows is) c.in-Some.is refl
+        c.next-self-in-Equal.ensures.steps

@@ -10,8 +10,11 @@ pub returns-clause-opens : goal.returns-clause-opens
 returns-clause-opens g c =
     let updates = on_ok _ c.insert.result (ap is_err c.in_default.is) c.insert.ensures.updates in
     rw (← c.self.view_is)
-    (inl (opened (key_texts c.self.inside.keys.items) c.self.inside.next (g.K.Tenants.jobs c.self.inside.worlds) (g.K.Tenants.sharing c.self.inside.worlds) c.nothing.result (g.K.Tenants.worlds c.self.inside.worlds) c.self.inside.queues.items c.self.inside.connections.entries c.insert.new.self.entries c.in-Ok.connection
-    (omega arith) (let h = c.if-self.false in omega arith) c.nothing.ensures.reply c.nothing.ensures.refused c.nothing.ensures.closed c.in-Ok.ensures updates.1 (λ d ne. updates.2 d (is_eq-nat_cmp_other c.self.inside.next d ne))))
+    (inl (opened (key_texts c.self.inside.keys.items) c.self.inside.next (g.K.Tenants.jobs c.self.inside.worlds)
+        (g.K.Tenants.sharing c.self.inside.worlds) c.nothing.result (g.K.Tenants.worlds c.self.inside.worlds) c.self.inside.queues.items
+        c.self.inside.connections.entries c.insert.new.self.entries c.in-Ok.connection
+    (omega arith) (let h = c.if-self.false in omega arith) c.nothing.ensures.reply c.nothing.ensures.refused c.nothing.ensures.closed
+        c.in-Ok.ensures updates.1 (λ d ne. updates.2 d (is_eq-nat_cmp_other c.self.inside.next d ne))))
 
 pub invariant_of-self-2 : goal.invariant_of-self-2
 invariant_of-self-2 g c =
@@ -22,7 +25,8 @@ invariant_of-self-2 g c =
       queues = c.self.invariant.queues;
       few = let more = one_more c.insert.result _ _ (ap is_err c.in_default.is) c.insert.ensures.len in omega (arith, more);
       fresh = opened_fresh c.self.inside.connections.entries c.insert.new.self.entries c.self.inside.next same c.self.invariant.fresh;
-      seated = opened_seats c.self.inside.queues.items c.self.inside.connections.entries c.insert.new.self.entries c.self.inside.next (c.self.invariant.fresh c.self.inside.next (omega arith)) same c.self.invariant.seated;
+      seated = opened_seats c.self.inside.queues.items c.self.inside.connections.entries c.insert.new.self.entries c.self.inside.next
+          (c.self.invariant.fresh c.self.inside.next (omega arith)) same c.self.invariant.seated;
       jobs = c.self.invariant.jobs;
       first = c.self.invariant.first;
     }

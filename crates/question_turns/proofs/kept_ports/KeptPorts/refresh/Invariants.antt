@@ -14,7 +14,8 @@ invariant-loop-spent g l =
     let world = world_of_ports g.F.Names.view l.initial.self in
     record {
       leaves : LeavesPorts g.F.Names.view g.R.PathRows.entries l.initial.self l.self;
-      paid : PaidSoFar world (refresh_of g.R.PathRows.entries l.initial.self.keeper.now) (refresh_of g.R.PathRows.entries l.self.keeper.now);
+      paid : PaidSoFar world (refresh_of g.R.PathRows.entries l.initial.self.keeper.now)
+          (refresh_of g.R.PathRows.entries l.self.keeper.now);
       spent : (before : Spent) → IsSpentOnIndex world (refresh_of g.R.PathRows.entries l.initial.self.keeper.now) before
           → IsSpentOnIndex world (refresh_of g.R.PathRows.entries l.self.keeper.now) before;
       few : turns_of_refresh world (refresh_of g.R.PathRows.entries l.self.keeper.now)
@@ -22,4 +23,5 @@ invariant-loop-spent g l =
     }
 
 abbrev pub decreases-loop-spent : goal.decreases-loop-spent
-decreases-loop-spent g l = count_left (world_of_ports g.F.Names.view l.initial.self) (refresh_of g.R.PathRows.entries l.self.keeper.now).rows
+decreases-loop-spent g l = count_left (world_of_ports g.F.Names.view l.initial.self)
+    (refresh_of g.R.PathRows.entries l.self.keeper.now).rows

@@ -39,13 +39,18 @@ returns-clause-answers c =
     let lent = c.turn_at.ensures.count ∙ ap length slice in
     let refill = refill_same c.self.inside.tenants.len items c.turn_at.new.tenants lent (omega (arith, c.self.inside.tenants.ok)) in
     let count = ap length refill ∙ lent in
-    let others = λ (u : ℕ) (ne : u ≢ c.args.tenant). ap (λ (ts : List Tenant). slice_get ts u) refill ∙ c.turn_at.ensures.same u ne ∙ ap (λ (ts : List Tenant). slice_get ts u) slice in
+    let others = λ (u : ℕ) (ne : u ≢ c.args.tenant). ap (λ (ts : List Tenant). slice_get ts u) refill ∙ c.turn_at.ensures.same u ne
+        ∙ ap (λ (ts : List Tenant). slice_get ts u) slice in
     rw (← c.self.view_is)
     (elim c.match-turn_at.branch [
-      | in-Ok w ↦ rw w.result-is (work_answers items _ c.args.tenant within count others c.args.request.now _ (subst (λ (ts : List Tenant). AnswersOver (world_at c.args.tenant items) (world_at c.args.tenant ts) c.args.request.now w.in-Ok.worked.reply) (sym refill)
-          (subst (λ (ts : List Tenant). AnswersOver (world_at c.args.tenant ts) (world_at c.args.tenant c.turn_at.new.tenants) c.args.request.now w.in-Ok.worked.reply) slice w.in-Ok.ensures.works.answers)))
+      | in-Ok w ↦ rw w.result-is (work_answers items _ c.args.tenant within count others c.args.request.now _
+          (subst (λ (ts : List Tenant). AnswersOver (world_at c.args.tenant items) (world_at c.args.tenant ts) c.args.request.now
+          w.in-Ok.worked.reply) (sym refill)
+          (subst (λ (ts : List Tenant). AnswersOver (world_at c.args.tenant ts) (world_at c.args.tenant c.turn_at.new.tenants)
+              c.args.request.now w.in-Ok.worked.reply) slice w.in-Ok.ensures.works.answers)))
       | in-Err w ↦ rw w.result-is (answers_for items _ c.args.tenant within count others c.args.request.now _
-          (inr (w.store_failed.ensures.value, ap (world_at c.args.tenant) refill ∙ w.in-Err.ensures.err ∙ ap (world_at c.args.tenant) slice)))
+          (inr (w.store_failed.ensures.value, ap (world_at c.args.tenant) refill ∙ w.in-Err.ensures.err
+              ∙ ap (world_at c.args.tenant) slice)))
     ])
 
 pub returns-clause-charges : goal.returns-clause-charges
@@ -60,10 +65,15 @@ returns-clause-charges c =
     rw (← c.self.view_is)
     (elim c.match-turn_at.branch [
       | in-Ok w ↦ rw w.result-is
-          (work_charges items new c.args.tenant within lent others c.args.request.now w.in-Ok.worked.reply (job_at c.args.tenant items) w.in-Ok.worked.spent c.never_answers_503.ensures
-          (subst (λ (ts : List Tenant). AnswersOver (world_at c.args.tenant ts) (world_at c.args.tenant new) c.args.request.now w.in-Ok.worked.reply) slice w.in-Ok.ensures.works.answers)
-          (subst (λ (ts : List Tenant). ChargesOver (world_at c.args.tenant ts) c.args.request.now (job_at c.args.tenant ts) w.in-Ok.worked.reply w.in-Ok.worked.spent) slice w.in-Ok.ensures.works.charges))
-      | in-Err w ↦ rw w.result-is (λ world there. subst (λ (reply : ReplyMessage). Charges world c.args.request.now reply (spent_on (job_at c.args.tenant items)) w.nothing.result) (sym w.store_failed.ensures.value) w.nothing.ensures)
+          (work_charges items new c.args.tenant within lent others c.args.request.now w.in-Ok.worked.reply (job_at c.args.tenant items)
+              w.in-Ok.worked.spent c.never_answers_503.ensures
+          (subst (λ (ts : List Tenant). AnswersOver (world_at c.args.tenant ts) (world_at c.args.tenant new) c.args.request.now
+              w.in-Ok.worked.reply) slice w.in-Ok.ensures.works.answers)
+          (subst (λ (ts : List Tenant). ChargesOver (world_at c.args.tenant ts) c.args.request.now (job_at c.args.tenant ts)
+              w.in-Ok.worked.reply w.in-Ok.worked.spent) slice w.in-Ok.ensures.works.charges))
+      | in-Err w ↦ rw w.result-is
+          (λ world there. subst (λ (reply : ReplyMessage). Charges world c.args.request.now reply (spent_on (job_at c.args.tenant items))
+          w.nothing.result) (sym w.store_failed.ensures.value) w.nothing.ensures)
     ])
 
 pub returns-clause-goes_on : goal.returns-clause-goes_on
@@ -75,13 +85,17 @@ returns-clause-goes_on c =
     let lent = c.turn_at.ensures.count ∙ ap length slice in
     let refill = refill_same c.self.inside.tenants.len items c.turn_at.new.tenants lent (omega (arith, c.self.inside.tenants.ok)) in
     let count = ap length refill ∙ lent in
-    let others = λ (u : ℕ) (ne : u ≢ c.args.tenant). ap (λ (ts : List Tenant). slice_get ts u) refill ∙ c.turn_at.ensures.same u ne ∙ ap (λ (ts : List Tenant). slice_get ts u) slice in
+    let others = λ (u : ℕ) (ne : u ≢ c.args.tenant). ap (λ (ts : List Tenant). slice_get ts u) refill ∙ c.turn_at.ensures.same u ne
+        ∙ ap (λ (ts : List Tenant). slice_get ts u) slice in
     rw (← c.self.view_is)
     (elim c.match-turn_at.branch [
       | in-Ok w ↦ rw w.result-is
-          (work_goes_on items _ c.args.tenant within count others c.args.request.now w.in-Ok.worked.reply (job_at c.args.tenant items) w.in-Ok.worked.spent
-          (if_none w.in-Ok.worked.reply (λ same. ap (world_at c.args.tenant) refill ∙ same ∙ ap (world_at c.args.tenant) slice) w.in-Ok.ensures.works.silent)
-          (subst (λ (ts : List Tenant). ChargesOver (world_at c.args.tenant ts) c.args.request.now (job_at c.args.tenant ts) w.in-Ok.worked.reply w.in-Ok.worked.spent) slice w.in-Ok.ensures.works.charges))
+          (work_goes_on items _ c.args.tenant within count others c.args.request.now w.in-Ok.worked.reply
+              (job_at c.args.tenant items) w.in-Ok.worked.spent
+          (if_none w.in-Ok.worked.reply (λ same. ap (world_at c.args.tenant) refill ∙ same ∙ ap (world_at c.args.tenant) slice)
+              w.in-Ok.ensures.works.silent)
+          (subst (λ (ts : List Tenant). ChargesOver (world_at c.args.tenant ts) c.args.request.now (job_at c.args.tenant ts)
+              w.in-Ok.worked.reply w.in-Ok.worked.spent) slice w.in-Ok.ensures.works.charges))
       | in-Err w ↦ rw w.result-is tt
     ])
 
@@ -91,12 +105,14 @@ returns-clause-job c =
     let slice = c.deref_mut.ensures.value in
     let lent = c.turn_at.ensures.count ∙ ap length slice in
     let refill = refill_same c.self.inside.tenants.len items c.turn_at.new.tenants lent (omega (arith, c.self.inside.tenants.ok)) in
-    let others = λ (u : ℕ) (ne : u ≢ c.args.tenant). ap (λ (ts : List Tenant). job_at u ts) refill ∙ job_same _ c.turn_at.new.tenants u (c.turn_at.ensures.same u ne) ∙ ap (λ (ts : List Tenant). job_at u ts) slice in
+    let others = λ (u : ℕ) (ne : u ≢ c.args.tenant). ap (λ (ts : List Tenant). job_at u ts) refill ∙ job_same _ c.turn_at.new.tenants u
+        (c.turn_at.ensures.same u ne) ∙ ap (λ (ts : List Tenant). job_at u ts) slice in
     rw (← c.self.view_is)
     (elim c.match-turn_at.branch [
       | in-Ok w ↦ rw w.result-is (record {
         job_is = ap (λ (ts : List Tenant). job_at c.args.tenant ts) refill ∙ w.in-Ok.ensures.works.job_is
-            ∙ ap (λ (ts : List Tenant). job_after c.args.request.now w.in-Ok.worked.reply w.in-Ok.worked.spent (job_at c.args.tenant ts)) slice;
+            ∙ ap (λ (ts : List Tenant). job_after c.args.request.now w.in-Ok.worked.reply w.in-Ok.worked.spent (job_at c.args.tenant ts))
+                slice;
         others = others;
       })
       | in-Err w ↦ rw w.result-is (record {
@@ -110,7 +126,8 @@ invariant_of-self c =
     let items = c.self.inside.tenants.items in
     let new = c.turn_at.new.tenants in
     let lent = c.turn_at.ensures.count ∙ ap length c.deref_mut.ensures.value in
-    subst AreRightTenants (sym (refill_same c.self.inside.tenants.len items new lent (omega (arith, c.self.inside.tenants.ok)))) c.turn_at.ensures.right
+    subst AreRightTenants (sym (refill_same c.self.inside.tenants.len items new lent (omega (arith, c.self.inside.tenants.ok))))
+        c.turn_at.ensures.right
 
 pub returns-clause-short : goal.returns-clause-short
 returns-clause-short c =
@@ -122,4 +139,5 @@ returns-clause-short c =
 pub returns-clause-uses : goal.returns-clause-uses
 returns-clause-uses c =
     rw (← c.self.view_is)
-    (IsUsed-cache c.self.inside.cache c.turn_at.new.cache c.counts-before.result c.counts-before.ensures (omega arith) (omega arith) c.turn_at.ensures.uses)
+    (IsUsed-cache c.self.inside.cache c.turn_at.new.cache c.counts-before.result c.counts-before.ensures (omega arith)
+        (omega arith) c.turn_at.ensures.uses)

@@ -7,7 +7,8 @@ use Rattle.stored_tenants.proofs.ShareLemmas.{unused-new}
 use Rattle.stored_tenants.proofs.stored_tenants.StoredTenantsTenants.new.Goals as goal
 
 pub returns-clause-worlds : goal.returns-clause-worlds
-returns-clause-worlds c = c.in_ok-tenants.ensures.worlds ∙ ap (λ n. replicate n opening_world) (omega (arith, c.in_ok-tenants.ensures.count))
+returns-clause-worlds c = c.in_ok-tenants.ensures.worlds ∙ ap (λ n. replicate n opening_world)
+    (omega (arith, c.in_ok-tenants.ensures.count))
 
 pub returns-clause-jobs : goal.returns-clause-jobs
 returns-clause-jobs c =

@@ -1,5 +1,6 @@
 -- No text was met, and neither the slots nor the map know one.
-use Rattle.std.proofs.Common.{◌≡◌, ◌∙◌, sym, ap, subst, refl, ℕ, zero, suc, List, [], length, get_or, replicate, Option, None, Some, Bor, arith}
+use Rattle.std.proofs.Common.{◌≡◌, ◌∙◌, sym, ap, subst, refl, ℕ, zero, suc, List, [], length, get_or, replicate, Option, None, Some, Bor}
+use Rattle.std.proofs.Common.{arith}
 use Rattle.std.proofs.lemmas.List.{length-replicate}
 use Rattle.std.proofs.lemmas.Option.{none-some}
 use Rattle.std.specs.BTreeMap.{is_at, get_by}
@@ -28,13 +29,17 @@ nothing_copied copies never (Some x) is = absurd (never x is)
 pub returns : goal.returns
 returns c =
     let none : [] ≡ now_all c.new.result.items = sym (ap now_all c.new.ensures.items) in
-    let empty : c.in_ok-vec.field-0.items ≡ replicate SLOTS None = c.in_ok-vec.ensures.items_if_clones_equal (nothing_copied _ (λ x never. never)) in
-    let no_first : (text : List ℕ) → get_or c.in_ok-vec.field-0.items (slot_of text) None ≡ None = λ text. ap (λ marks. get_or marks (slot_of text) None) empty ∙ none_at SLOTS (slot_of text) in
+    let empty : c.in_ok-vec.field-0.items ≡ replicate SLOTS None = c.in_ok-vec.ensures.items_if_clones_equal
+        (nothing_copied _ (λ x never. never)) in
+    let no_first : (text : List ℕ) → get_or c.in_ok-vec.field-0.items (slot_of text) None ≡ None =
+        λ text. ap (λ marks. get_or marks (slot_of text) None) empty ∙ none_at SLOTS (slot_of text) in
     let no_other = λ (text : List ℕ). ap (lookup (is_at (λ (key : Bor (List ℕ)). slice_cmp nat_cmp text key.now))) c.new-2.ensures.empty in
     record {
       slots = ap length empty ∙ length-replicate {A = Option ℕ} SLOTS None;
       inside = λ text number is. absurd (none-some number (sym (no_first text) ∙ is));
       spare = λ text is. no_other text;
-      knows = λ text. ap (λ found. place_kept (now_all c.new.result.items) text found (get_by (λ (key : Bor (List ℕ)). slice_cmp nat_cmp text key.now) c.new-2.result)) (no_first text) ∙ no_other text ∙ ap (λ met. place_of met text) none;
+      knows = λ text. ap (λ found. place_kept (now_all c.new.result.items) text found
+          (get_by (λ (key : Bor (List ℕ)). slice_cmp nat_cmp text key.now) c.new-2.result)) (no_first text) ∙ no_other text
+          ∙ ap (λ met. place_of met text) none;
       once = subst EachOnce none none_once;
     }

@@ -10,7 +10,8 @@ invariant-loop-arrow l =
     let met = texts_met l.self in
     let arrows = arrows_seen (take l.arrow-index l.arrows) in
     record {
-      from : AreNumbers met (map (λ (arrow : NumberedArrow). arrow.from) l.numbered.items) (map (λ (arrow : ArrowValue). arrow.from) arrows);
+      from : AreNumbers met (map (λ (arrow : NumberedArrow). arrow.from) l.numbered.items)
+          (map (λ (arrow : ArrowValue). arrow.from) arrows);
       to : AreNumbers met (map (λ (arrow : NumberedArrow). arrow.to) l.numbered.items) (map (λ (arrow : ArrowValue). arrow.to) arrows);
       more : MeetsMore l.fn.self l.self;
     }
