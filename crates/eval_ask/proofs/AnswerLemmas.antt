@@ -49,7 +49,7 @@ cost_left (Err end) = refl
 pub cost-within : (files : FileMap) (key : Key) → cost_of (evaluation_of files key).outcome ≤ UNITS
 cost-within files key =
     let end : Result (EvalState × Account) (FaultAt × Account) = evaluation (files, key.settings) key.name key.flavors
-        (unspent_account UNITS None) in
+    (unspent_account UNITS None) in
     let shared = shared-evaluation files files key.settings key.name key.flavors in
     omega (arith, cost_left end, spends shared (full UNITS) None end refl, shared.steady.within (full UNITS) (omega arith))
 
@@ -70,10 +70,10 @@ module _ (files : FileMap) (units spent : ℕ) (old : Ask) (is : IsAskIn files o
   last-thing last =
       let next : Point = point_before last.makefile last.frame last.others last.state last.account in
       let end : Result (StateAndFrames × Account) (FaultAt × Account) = advance files last.makefile last.frame last.others
-          last.state last.account in
+      last.state last.account in
       let shared = shared-advance files last.makefile last.frame last.others last.state in
       let onward : last.account.meter.spent ≤ spent =
-          omega (arith, shared.steady.onward last.account.meter, spends shared last.account.meter last.account.log end refl, last.leaves) in
+      omega (arith, shared.steady.onward last.account.meter, spends shared last.account.meter last.account.log end refl, last.leaves) in
       record {
         makefile = last.makefile;
         frame = last.frame;
@@ -91,7 +91,7 @@ module _ (files : FileMap) (units spent : ℕ) (old : Ask) (is : IsAskIn files o
 
   stops-in-time : StopsInTime files units (point_of old.machine) spent
       → (spent ≡ old.machine.budget.spent) ⊎ IsLastThing (files, (key_in old).settings) (pair_for (key_in old)) units
-          old.machine.budget.spent spent
+      old.machine.budget.spent spent
   stops-in-time stops = elim stops.last [ inl none ↦ inl none | inr last ↦ inr (last-thing last) ]
 
 none_checked : (units before after : ℕ) → after ≡ before → units ≡ units - (after - before)
@@ -110,12 +110,12 @@ pub in-time : (files : FileMap) (key : Key) (units : ℕ) (old : Ask) (came : As
 in-time files key units old came come turns =
     subst (λ (k : Key). EvaluatesInTime (files, k.settings) (Some (pair_for k)) units (spent_so_far old) (spent_in came)) come.0
     (subst (λ (n : ℕ). ((spent_in came).units ≡ old.machine.budget.spent) ⊎ IsLastThing (files, (key_in old).settings)
-        (pair_for (key_in old)) n old.machine.budget.spent (spent_in came).units)
+    (pair_for (key_in old)) n old.machine.budget.spent (spent_in came).units)
     (none_checked units old.looked.checks (spent_in came).checks (unchecked-turn files units old came turns)) (stops came turns))
   where
     stops : (came : AskTurned) → TurnsAsk files units old came
         → ((spent_in came).units ≡ old.machine.budget.spent) ⊎ IsLastThing (files, (key_in old).settings) (pair_for (key_in old)) units
-            old.machine.budget.spent (spent_in came).units
+        old.machine.budget.spent (spent_in came).units
     stops (ask.More new) turns = stops-in-time files units new.machine.budget.spent old come.1 turns.1.under.within turns.3
     stops (ask.Done asked) turns = stops-in-time files units asked.units old come.1
         (omega (arith, turns.0.units, cost-within files (key_in old))) turns.1

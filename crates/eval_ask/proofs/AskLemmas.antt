@@ -78,8 +78,11 @@ failed_once (faults.Store _) may middle last leaves =
     (ap (λ (view : FilesView). view.files) leaves.1.counted, inr (ap (λ (view : FilesView). view.failures) leaves.1.counted))
 failed_once (faults.Memory _) may middle last leaves = elim leaves [
   | inl more ↦ (ap (λ (view : FilesView). view.files) more.in_log, inl (ap (λ (view : FilesView). view.failures) more.in_log))
-  | inr failing ↦ (ap (λ (view : FilesView). view.files) failing.1.counted, inr
-      (ap (λ (view : FilesView). view.failures) failing.1.counted))
+  | inr failing ↦ (
+    ap (λ (view : FilesView). view.files) failing.1.counted,
+    inr
+        (ap (λ (view : FilesView). view.failures) failing.1.counted),
+  )
 ]
 
 -- it failed as the files may
@@ -135,9 +138,9 @@ module _ (first middle last : FilesView) (trace : List Question) (goes : middle 
           → IsUnderWay (first.files, key.settings) key.name key.flavors taken machine
       more_under machine leaves =
           subst (λ asked. IsUnderWay (first.files, key.settings) key.name key.flavors asked machine)
-              (sym (taken_is leaves.more leaves.noted))
+          (sym (taken_is leaves.more leaves.noted))
           (subst (λ (files : FileMap). IsUnderWay (files, key.settings) key.name key.flavors (trace ++ leaves.more) machine) same-files
-              leaves.so)
+          leaves.so)
 
       -- it is done, and what was taken is all that it asks
       done_is : (outcome : Result Evaluated Failed) → means (middle.files, key.settings) key.name key.flavors ≡ outcome
@@ -145,7 +148,7 @@ module _ (first middle last : FilesView) (trace : List Question) (goes : middle 
           → ◌≡◌ {A = Evaluation} (record { outcome = outcome; trace = taken }) (evaluation_of first.files key)
       done_is outcome tells leaves =
           ap₂ (λ outcome trace. let evaluation : Evaluation = record { outcome = outcome; trace = trace } in evaluation) (sym tells)
-              (taken_is leaves.more leaves.noted ∙ sym leaves.so)
+          (taken_is leaves.more leaves.noted ∙ sym leaves.so)
           ∙ ap (λ (files : FileMap). evaluation_of files key) same-files
 
       pub ends-right : IsTheSameWhereAgreed → (may : FilesFault → Type 0) (turned : Turned)
@@ -154,7 +157,7 @@ module _ (first middle last : FilesView) (trace : List Question) (goes : middle 
       ends-right same may (More machine) tells leaves = tt
       ends-right same may (Done outcome) tells leaves =
           IsRight-recorded same first.files key.settings key.name key.flavors key (record { outcome = outcome; trace = taken }) refl
-              (done_is outcome tells leaves)
+          (done_is outcome tells leaves)
 
     -- a turn of an evaluation that is asked for
     pub turns-ask : (may : FilesFault → Type 0) (units : ℕ) (old : Ask) (turned : Turned) (came : AskTurned)

@@ -55,7 +55,7 @@ fault_code =
     (λ fault. (fault_number fault.kind, (fault.name, fault.line)))
     (λ parts. record { kind = fault_of parts.0; name = parts.1.0; line = parts.1.1 })
     (λ fault. ap (λ kind. let same : FaultAt = record { kind = kind; name = fault.name; line = fault.line } in same)
-        (fault_of-number fault.kind))
+    (fault_of-number fault.kind))
 
 abbrev kind_number : Kind → ℕ
 kind_number outcome.Port = 0
@@ -79,7 +79,7 @@ variables_code = coded× profile_code (code (coded_list coded_ℕ) (coded_list c
 state_code : Coded EvalState
 state_code =
     code_by (Variables × (Kind × (Bool × List (List ℕ))))
-        (coded× variables_code (coded× kind_code (coded× coded_bool (coded_list (coded_list coded_ℕ)))))
+    (coded× variables_code (coded× kind_code (coded× coded_bool (coded_list (coded_list coded_ℕ)))))
     (λ state. (state.variables, (state.kind, (state.shared_asked, state.path))))
     (λ parts. record { variables = parts.0; kind = parts.1.0; shared_asked = parts.1.1.0; path = parts.1.1.1 }) (λ state. refl)
 

@@ -38,7 +38,7 @@ lookup-seen : {K L X Y : Type 0} (key : K → L) (value : X → Y) (test : K →
 lookup-seen key value test seen same [] = refl
 lookup-seen key value test seen same (entry ∷ entries) =
     subst (λ b. cond b (Some (value entry.1)) (lookup seen (map (λ entry. (key entry.0, value entry.1)) entries)) ≡ option_map value
-        (cond (test entry.0) (Some entry.1) (lookup test entries)))
+    (cond (test entry.0) (Some entry.1) (lookup test entries)))
     (same entry.0) (seen_step value entry.1 (test entry.0) _ (lookup test entries) (lookup-seen key value test seen same entries))
 
 -- the evaluations that are kept under a key
@@ -80,12 +80,12 @@ pub AreRightForKeys-put : (purpose : Purpose) (old new : LruCache EvalKey (Vec (
     → AreRightForKeys new.entries
 AreRightForKeys-put purpose old new key kept right here short puts other value there =
     elim (Contains-PutsNew purpose (key, kept) old new (other, value) puts there) [
-  | inl was ↦ right other value was
-  | inr is ↦ (
-    subst (λ (e : EvalKey × Vec (Rc Evaluation Global) Global). AreRight (key_of e.0) e.1.items) is here,
-    subst (λ (e : EvalKey × Vec (Rc Evaluation Global) Global). AreShort e.1.items) is short,
-  )
-]
+      | inl was ↦ right other value was
+      | inr is ↦ (
+        subst (λ (e : EvalKey × Vec (Rc Evaluation Global) Global). AreRight (key_of e.0) e.1.items) is here,
+        subst (λ (e : EvalKey × Vec (Rc Evaluation Global) Global). AreShort e.1.items) is short,
+      )
+    ]
 
 -- the traces that a cache shows are those of the evaluations under a key
 pub traces-of-kept : (evals : KeptEvaluations) (key : EvalKey) (kept : Option (Vec (Rc Evaluation Global) Global))
@@ -93,7 +93,7 @@ pub traces-of-kept : (evals : KeptEvaluations) (key : EvalKey) (kept : Option (V
     → traces_of (evaluations_in kept) ≡ unwrap_or (lookup (same_key (key_of key)) (traces_by_key evals)) []
 traces-of-kept evals key kept found =
     by kept ∙ ap (λ k. unwrap_or (option_map (λ (kept : Vec (Rc Evaluation Global) Global). traces_of kept.items) k) []) found
-        ∙ ap (λ traces. unwrap_or traces []) (sym (traces-kept_at evals key))
+    ∙ ap (λ traces. unwrap_or traces []) (sym (traces-kept_at evals key))
   where
     by : (kept : Option (Vec (Rc Evaluation Global) Global)) → traces_of (evaluations_in kept) ≡ unwrap_or
         (option_map (λ (kept : Vec (Rc Evaluation Global) Global). traces_of kept.items) kept) []
@@ -114,8 +114,8 @@ front : {K X : Type 0} (test seen : K → Bool) → ((one other : K) → test on
 front test seen apart [] entry found = cc
 front {K = K} {X = X} test seen apart (first ∷ entries) entry found =
     (elim (test first.0) as (λ b. test first.0 ≡ b → cond b (Some first) (lookup_entry test entries) ≡ Some entry
-    → cond (seen entry.0) (Some entry.1) (lookup seen (cond b entries (first ∷ remove_entry test entries))) ≡ lookup seen (first ∷ entries))
-        [
+    → cond (seen entry.0) (Some entry.1) (lookup seen (cond b entries (first ∷ remove_entry test entries)))
+    ≡ lookup seen (first ∷ entries)) [
       | true ↦ λ is found. let same : first ≡ entry = cc in
           ap (λ (e : K × X). cond (seen e.0) (Some e.1) (lookup seen entries)) (sym same)
       | false ↦ λ is found. behind (seen entry.0) (seen first.0) (Some entry.1) (Some first.1)
@@ -144,7 +144,7 @@ keys_apart : (key : EvalKey) (other : Key) (one two : EvalKey) → key_eq key on
     → same_key other (key_of one) ≡ true → same_key other (key_of two) ≡ false
 keys_apart key other one two same differs is = not_both (same_key other (key_of two)) (λ too.
     let keys : key_of key ≡ key_of two = key_eq-≡ key one same ∙ sym (same_key-≡ other (key_of one) is)
-        ∙ same_key-≡ other (key_of two) too in
+    ∙ same_key-≡ other (key_of two) too in
     true≢false (sym (≡-key_eq key two keys) ∙ differs))
 
 -- so the traces that a cache shows stay those of each key
@@ -153,9 +153,9 @@ pub traces-promoted : (evals : KeptEvaluations) (key : EvalKey) (other : Key)
 traces-promoted evals key other =
     let seen : EvalKey → Bool = λ k. same_key other (key_of k) in
     lookup-seen key_of (λ (kept : Vec (Rc Evaluation Global) Global). traces_of kept.items) seen (same_key other) (λ k. refl)
-        (promoted (key_eq key) evals)
+    (promoted (key_eq key) evals)
     ∙ ap (option_map (λ (kept : Vec (Rc Evaluation Global) Global). traces_of kept.items))
-        (lookup-promoted (key_eq key) seen (keys_apart key other) evals)
+    (lookup-promoted (key_eq key) seen (keys_apart key other) evals)
     ∙ sym (lookup-seen key_of (λ (kept : Vec (Rc Evaluation Global) Global). traces_of kept.items) seen (same_key other) (λ k. refl) evals)
 
 -- how the code compares contents
@@ -185,10 +185,10 @@ AreTrees-promoted parses key trees other parse there = trees other parse (Contai
 -- a parse is put under its content, for which none is kept, if there is memory for that
 pub AreTrees-put : (purpose : Purpose) (old new : LruCache ContentKey (Result (Rc Makefile Global) ParseFault)) (key : ContentKey)
     (parse : Result (Rc Makefile Global) ParseFault) → AreTrees old.entries → tree_or_fault parse ≡ parsed key.content
-        → PutsNew purpose (key, parse) old new
+    → PutsNew purpose (key, parse) old new
     → AreTrees new.entries
 AreTrees-put purpose old new key parse trees here puts other value there =
     elim (Contains-PutsNew purpose (key, parse) old new (other, value) puts there) [
-  | inl was ↦ trees other value was
-  | inr is ↦ subst (λ (e : ContentKey × Result (Rc Makefile Global) ParseFault). tree_or_fault e.1 ≡ parsed e.0.content) is here
-]
+      | inl was ↦ trees other value was
+      | inr is ↦ subst (λ (e : ContentKey × Result (Rc Makefile Global) ParseFault). tree_or_fault e.1 ≡ parsed e.0.content) is here
+    ]

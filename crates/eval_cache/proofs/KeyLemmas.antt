@@ -50,13 +50,13 @@ abbrev pub key_eq : EvalKey → EvalKey → Bool
 key_eq one other =
     profile_eq one.profile other.profile
     && (pointwise string_eq one.trees.items other.trees.items &&
-        (string_eq one.name other.name && option_eq vec_eq one.flavors other.flavors))
+    (string_eq one.name other.name && option_eq vec_eq one.flavors other.flavors))
 
 -- is by their texts
 pub key_eq-same_key : (one other : EvalKey) → key_eq one other ≡ same_key (key_of one) (key_of other)
 key_eq-same_key one other =
     let texts = ap₂ (λ trees flavors. trees && (string_eq one.name other.name && flavors)) (texts_eq one.trees.items other.trees.items)
-        (flavors_eq one.flavors other.flavors) in
+    (flavors_eq one.flavors other.flavors) in
     ap₂ (λ profile rest. profile && rest) (profiles_eq one.profile other.profile) texts
 
 both : (b c : Bool) → b && c ≡ true → (b ≡ true) × (c ≡ true)
@@ -110,8 +110,8 @@ both-true b c b_is c_is = ap₂ (λ b c. b && c) b_is c_is
 pub same_key-refl : (key : Key) → same_key key key ≡ true
 same_key-refl key =
     both-true _ _ (same_number-refl key.settings.profile)
-        (both-true _ _ ((slice_eq-Decides bytes_eq-Decides key.settings.path key.settings.path
-        (pointwise bytes_eq key.settings.path key.settings.path) refl).1 refl)
+    (both-true _ _ ((slice_eq-Decides bytes_eq-Decides key.settings.path key.settings.path
+    (pointwise bytes_eq key.settings.path key.settings.path) refl).1 refl)
     (both-true _ _ ((bytes_eq-Decides key.name key.name).1 refl) (same_flavors-refl key.flavors)))
 
 -- so keys that are the same are equal

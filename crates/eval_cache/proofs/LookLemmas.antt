@@ -70,9 +70,11 @@ pub few-more : (kept : List (Rc Evaluation Global)) (i : ℕ) (one : Rc Evaluati
 few-more kept i one evaluation files answer short within is same found =
     let at : HasFewAnswers one.value.trace = short-at kept i one short.0 within is in
     let trace : HasFewAnswers evaluation.trace = subst (λ (e : Evaluation). HasFewAnswers e.trace) (sym same) at in
-    let count : answer.1 ≡ (agreement files evaluation.trace).1 = ap (λ (p : Bool × ℕ). p.1) found in
-    (omega (arith, agreement-≤ files evaluation.trace, trace.1), omega (arith, short.1),
-        omega (arith, agreement-some files evaluation.trace trace.0))
+    let count : answer.1 ≡ (agreement files evaluation.trace).1 = ap (λ (p : Bool × ℕ). p.1) found in (
+      omega (arith, agreement-≤ files evaluation.trace, trace.1),
+      omega (arith, short.1),
+      omega (arith, agreement-some files evaluation.trace trace.0),
+    )
 
 -- What was checked before the rest of the traces: none agreed, so many answers were checked, and the view of the
 -- files is this.
@@ -121,7 +123,7 @@ Checked-more old traces trace rest count answer middle new so_far found asks dif
     record {
       agreeing_so_far = so_far.agreeing_so_far
           ∙ ap (λ b. after_more_checks count (if b then agreement old.files trace else after_more_checks (agreement old.files trace).1
-              (agreeing old.files rest))) differs'
+          (agreeing old.files rest))) differs'
           ∙ ap (λ (p : Bool × ℕ). after_more_checks count (after_more_checks p.1 (agreeing old.files rest))) same
           ∙ after_more_checks-twice count answer.1 (agreeing old.files rest);
       before = so_far.before ++ checked_in old.files trace;

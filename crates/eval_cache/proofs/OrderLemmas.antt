@@ -49,7 +49,7 @@ module _ {K L X Y : Type 0} (key : K → L) (value : X → Y) (test : K → Bool
   found_step : (entry : K × X) (entries : List (K × X)) (b : Bool) (rest : Option (L × Y))
       → rest ≡ option_map (λ e. (key e.0, value e.1)) (lookup_entry test entries)
       → cond b (Some (key entry.0, value entry.1)) rest ≡ option_map (λ e. (key e.0, value e.1))
-          (cond b (Some entry) (lookup_entry test entries))
+      (cond b (Some entry) (lookup_entry test entries))
   found_step entry entries true rest is = refl
   found_step entry entries false rest is = is
 
@@ -76,13 +76,13 @@ pub traces-first : (evals : KeptEvaluations) (key : EvalKey)
     → traces_by_key (promoted (key_eq key) evals) ≡ promoted (same_key (key_of key)) (traces_by_key evals)
 traces-first evals key =
     sym (promoted-shown key_of (λ (kept : Vec (Rc Evaluation Global) Global). traces_of kept.items) (key_eq key) (same_key (key_of key))
-        (key_eq-same_key key) evals)
+    (key_eq-same_key key) evals)
 
 traces-removed : (evals : KeptEvaluations) (key : EvalKey)
     → traces_by_key (remove_entry (key_eq key) evals) ≡ remove_entry (same_key (key_of key)) (traces_by_key evals)
 traces-removed evals key =
     sym (remove_entry-shown key_of (λ (kept : Vec (Rc Evaluation Global) Global). traces_of kept.items) (key_eq key) (same_key (key_of key))
-        (key_eq-same_key key) evals)
+    (key_eq-same_key key) evals)
 
 -- ---- a key that is there at most once
 
@@ -100,7 +100,7 @@ module _ {K X : Type 0} (eq : K → K → Bool) (test : K → Bool) (only : (one
   none_after one [] is apart = refl
   none_after one (entry ∷ entries) is apart =
       ap (λ b. cond b (Some entry) (lookup_entry test entries))
-          (differs (test entry.0) (λ too. not_true (eq one entry.0) (only one entry.0 is too) apart.0))
+      (differs (test entry.0) (λ too. not_true (eq one entry.0) (only one entry.0 is too) apart.0))
       ∙ none_after one entries is apart.1
 
   gone_step : (entry : K × X) (entries : List (K × X)) (b : Bool) → test entry.0 ≡ b → (b ≡ true → lookup_entry test entries ≡ None)
@@ -132,26 +132,26 @@ pub traces-put : (purpose : Purpose) (old middle new : LruCache EvalKey (Vec (Rc
     (kept : Vec (Rc Evaluation Global) Global)
     → middle ≡ lru_cache (remove_entry (key_eq key) old.entries) old.cap → PutsNew purpose (key, kept) middle new
     → (traces_by_key new.entries ≡ placed purpose old.cap (key_of key, traces_of kept.items)
-        (remove_entry (same_key (key_of key)) (traces_by_key old.entries)))
+    (remove_entry (same_key (key_of key)) (traces_by_key old.entries)))
     ⊎ (traces_by_key new.entries ≡ remove_entry (same_key (key_of key)) (traces_by_key old.entries))
 traces-put purpose old middle new key kept removed (inl put) =
     inl (
     ap (λ (c : LruCache EvalKey (Vec (Rc Evaluation Global) Global)). traces_by_key c.entries) put
     ∙ ap (λ (c : LruCache EvalKey (Vec (Rc Evaluation Global) Global)). traces_by_key (placed purpose c.cap (key, kept) c.entries)) removed
     ∙ placed-shown (λ (e : EvalKey × Vec (Rc Evaluation Global) Global). (key_of e.0, traces_of e.1.items)) purpose old.cap (key, kept)
-        (remove_entry (key_eq key) old.entries)
+    (remove_entry (key_eq key) old.entries)
     ∙ ap (placed purpose old.cap (key_of key, traces_of kept.items)) (traces-removed old.entries key)
     )
 traces-put purpose old middle new key kept removed (inr same) =
     inr (ap (λ (c : LruCache EvalKey (Vec (Rc Evaluation Global) Global)). traces_by_key c.entries) (same ∙ removed)
-        ∙ traces-removed old.entries key)
+    ∙ traces-removed old.entries key)
 
 cap-put : (purpose : Purpose) (old middle new : LruCache EvalKey (Vec (Rc Evaluation Global) Global)) (key : EvalKey)
     (kept : Vec (Rc Evaluation Global) Global)
     → middle ≡ lru_cache (remove_entry (key_eq key) old.entries) old.cap → PutsNew purpose (key, kept) middle new → new.cap ≡ old.cap
 cap-put purpose old middle new key kept removed (inl put) =
     ap (λ (c : LruCache EvalKey (Vec (Rc Evaluation Global) Global)). c.cap) put
-        ∙ ap (λ (c : LruCache EvalKey (Vec (Rc Evaluation Global) Global)). c.cap) removed
+    ∙ ap (λ (c : LruCache EvalKey (Vec (Rc Evaluation Global) Global)). c.cap) removed
 cap-put purpose old middle new key kept removed (inr same) = ap (λ (c : LruCache EvalKey (Vec (Rc Evaluation Global) Global)). c.cap)
     (same ∙ removed)
 
@@ -176,7 +176,7 @@ Keeps-put contents parses counts purpose old middle new key evaluation older kep
     let first : List (List Question) → List (Key × List (List Question)) =
     λ traces. placed purpose old.cap (key_of key, traces) (remove_entry (same_key (key_of key)) (traces_by_key old.entries)) in
     let before : traces_of (evaluations_in older) ≡ traces_at (with_evals contents parses counts purpose old) (key_of key) =
-        traces-of-kept old.entries key older found in
+    traces-of-kept old.entries key older found in
     record {
       few = λ _. elim (traces-put purpose old middle new key kept removed puts) [
         | inl put ↦ elim newest.traces [
@@ -186,8 +186,13 @@ Keeps-put contents parses counts purpose old middle new key evaluation older kep
         | inr gone ↦ inr (inr gone)
       ];
       other = λ many. absurd (many few);
-      rest = ap (λ keys. record { contents = contents; traces = traces_by_key new.entries; sizes = record { parses = parses; keys = keys };
-          counts = counts; purpose = purpose })
+      rest = ap (λ keys. record {
+        contents = contents;
+        traces = traces_by_key new.entries;
+        sizes = record { parses = parses; keys = keys };
+        counts = counts;
+        purpose = purpose;
+      })
           (cap-put purpose old middle new key kept removed puts);
     }
 
@@ -197,7 +202,7 @@ without_step : (content : List ℕ) (entry : ContentKey × Result (Rc Makefile G
     (b : Bool) (rest : List (List ℕ))
     → contents_of (remove_entry (λ k. bytes_eq content k.content) entries) ≡ rest
     → contents_of (cond b entries (entry ∷ remove_entry (λ k. bytes_eq content k.content) entries)) ≡ cond b (contents_of entries)
-        (entry.0.content ∷ rest)
+    (entry.0.content ∷ rest)
 without_step content entry entries true rest is = refl
 without_step content entry entries false rest is = ap (λ more. entry.0.content ∷ more) is
 
@@ -206,12 +211,12 @@ contents-removed : (parses : KeptParses) (key : ContentKey) → contents_of (rem
 contents-removed [] key = refl
 contents-removed (entry ∷ parses) key =
     without_step key.content entry parses (bytes_eq key.content entry.0.content) (without_content key.content (contents_of parses))
-        (contents-removed parses key)
+    (contents-removed parses key)
 
 first-content : (parses : KeptParses) (key : ContentKey) (found : Option (ContentKey × Result (Rc Makefile Global) ParseFault))
     → lookup_entry (content_eq key) parses ≡ found → is_some found ≡ true
     → contents_of (option_map_or (λ e. e ∷ remove_entry (content_eq key) parses) found parses) ≡ key.content ∷ contents_of
-        (remove_entry (content_eq key) parses)
+    (remove_entry (content_eq key) parses)
 first-content parses key None is there = absurd (true≢false (sym there))
 first-content parses key (Some entry) is there =
     ap (λ content. content ∷ contents_of (remove_entry (content_eq key) parses))
@@ -247,7 +252,7 @@ no-parse parses key none = is-none _ (is_some-entry (content_eq key) parses ∙ 
 pub contents-put : (purpose : Purpose) (old new : LruCache ContentKey (Result (Rc Makefile Global) ParseFault)) (key : ContentKey)
     (parse : Result (Rc Makefile Global) ParseFault) → PutsNew purpose (key, parse) old new
     → (contents_of new.entries ≡ placed purpose old.cap key.content (contents_of old.entries))
-        ⊎ (contents_of new.entries ≡ contents_of old.entries)
+    ⊎ (contents_of new.entries ≡ contents_of old.entries)
 contents-put purpose old new key parse (inl put) =
     inl (
     ap (λ (c : LruCache ContentKey (Result (Rc Makefile Global) ParseFault)). contents_of c.entries) put
@@ -270,7 +275,7 @@ with_parses traces keys counts purpose parses = record {
 -- a parse that was kept was used
 pub HandsOut-kept : (traces : List (Key × List (List Question))) (keys : ℕ) (counts more : Counts) (purpose : Purpose)
     (old new : LruCache ContentKey (Result (Rc Makefile Global) ParseFault)) (key : ContentKey)
-        → is_some (lookup (content_eq key) old.entries) ≡ true
+    → is_some (lookup (content_eq key) old.entries) ≡ true
     → new ≡ lru_cache (promoted (content_eq key) old.entries) old.cap → more ≡ record counts { parses = one_more counts.parses }
     → HandsOut key.content (with_parses traces keys counts purpose old) (with_parses traces keys more purpose new)
 HandsOut-kept traces keys counts more purpose old new key there first counted =

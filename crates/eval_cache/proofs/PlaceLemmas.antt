@@ -18,14 +18,14 @@ pub put-new : {K X : Type 0} (eq : K → K → Bool) (cache : LruCache K X) (key
     → put_entries eq cache key value ≡ (key, value) ∷ take (cache.cap - 1) cache.entries
 put-new eq cache key value none =
     ap (λ found. option_map_or (λ e. (e.0, value) ∷ remove_entry (eq key) cache.entries) found
-        ((key, value) ∷ take (cache.cap - 1) cache.entries)) none
+    ((key, value) ∷ take (cache.cap - 1) cache.entries)) none
 
 -- the entry that stands first stands last then
 demoted-first : {K X : Type 0} (test : K → Bool) (entry : K × X) (entries : List (K × X)) → test entry.0 ≡ true
     → demoted test (entry ∷ entries) ≡ entries ++ entry ∷ []
 demoted-first test entry entries is =
     ap (λ b. option_map_or (λ e. cond b entries (entry ∷ remove_entry test entries) ++ e ∷ [])
-        (cond b (Some entry) (lookup_entry test entries)) (entry ∷ entries)) is
+    (cond b (Some entry) (lookup_entry test entries)) (entry ∷ entries)) is
 
 -- what goes last does so if it is put first, and then goes last
 pub placed-last : {K X : Type 0} (eq : K → K → Bool) (purpose : Purpose) (old middle new : LruCache K X) (key same : K) (value : X)
@@ -46,9 +46,9 @@ pub placed-shown : {X Y : Type 0} (shown : X → Y) (purpose : Purpose) (places 
 placed-shown shown purpose places new others =
     by (goes_last purpose places others)
     ∙ ap (λ rest. cond (goes_last purpose places others) (rest ++ shown new ∷ []) (shown new ∷ rest))
-        (sym (take-map shown (places - 1) others))
+    (sym (take-map shown (places - 1) others))
     ∙ ap (λ b. cond b (take (places - 1) (map shown others) ++ shown new ∷ []) (shown new ∷ take (places - 1) (map shown others)))
-        (goes_last-shown purpose)
+    (goes_last-shown purpose)
   where
     by : (b : Bool) → map shown (cond b (take (places - 1) others ++ new ∷ []) (new ∷ take (places - 1) others))
         ≡ cond b (map shown (take (places - 1) others) ++ shown new ∷ []) (shown new ∷ map shown (take (places - 1) others))
@@ -76,5 +76,5 @@ pub Contains-PutsNew : {K X : Type 0} (purpose : Purpose) (entry : K × X) (old 
     → Contains new.entries one → Contains old.entries one ⊎ (entry ≡ one)
 Contains-PutsNew purpose entry old new one (inl put) there =
     among (old.cap - 1) (goes_last purpose old.cap old.entries) entry old.entries one
-        (subst (λ cache. Contains cache.entries one) put there)
+    (subst (λ cache. Contains cache.entries one) put there)
 Contains-PutsNew purpose entry old new one (inr same) there = inl (subst (λ cache. Contains cache.entries one) same there)

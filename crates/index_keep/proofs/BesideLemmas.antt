@@ -26,11 +26,11 @@ pub target-next : (outcomes : List ℕ → PathOutcome) (texts : List (String Gl
     ≡ (is_target_among outcomes (map string_bytes (take place texts)) path || is_one_of path (targets_in (outcomes (string_bytes text))))
 target-next outcomes texts place text path inside is =
     ap (λ ts. is_target_among outcomes (map string_bytes ts) path) (take_more texts place text inside
-        ∙ ap (λ t. take place texts ++ t ∷ []) (sym is))
+    ∙ ap (λ t. take place texts ++ t ∷ []) (sym is))
     ∙ ap (λ ps. is_target_among outcomes ps path) (map-append string_bytes (take place texts) (text ∷ []))
     ∙ list_any-append (λ one. is_one_of path (targets_in (outcomes one))) (map string_bytes (take place texts)) (string_bytes text ∷ [])
     ∙ ap (λ b. is_target_among outcomes (map string_bytes (take place texts)) path || b)
-        (or-none (is_one_of path (targets_in (outcomes (string_bytes text)))))
+    (or-none (is_one_of path (targets_in (outcomes (string_bytes text)))))
 
 -- those with a comma that are there are added
 pub added-there : (comma target there named more : Bool) → named ≡ (comma && more)

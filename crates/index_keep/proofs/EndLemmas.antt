@@ -31,9 +31,11 @@ module _ (world : World) (old : ShownRows) (last : LastStage) (end : IsAtEnd wor
     paths = map string_bytes beside.items
 
     pub end-order : HasOrder last paths
-    end-order = (subst AreInOrder (sym end.far.listed)
-        (in_order-again (flat_map (named_at (outcome_at world)) (directories (files_in world)) ++ directories (files_in world))),
-        are.ordered)
+    end-order = (
+      subst AreInOrder (sym end.far.listed)
+          (in_order-again (flat_map (named_at (outcome_at world)) (directories (files_in world)) ++ directories (files_in world))),
+      are.ordered,
+    )
 
     either : (path : List ℕ) (listed : Bool) → is_one_of path (listed_paths world) ≡ listed → (listed || is_one_of path paths) ≡ true
         → is_one_of path (needed_paths world) ≡ true
@@ -52,7 +54,7 @@ module _ (world : World) (old : ShownRows) (last : LastStage) (end : IsAtEnd wor
     pub kept-fresh : (path : List ℕ) → row_stays last paths path ≡ is_fresh_of (needed_paths world) old path
     kept-fresh path =
         ap (λ row. (is_one_of path (map string_bytes last.listed.items) || is_one_of path paths) && is_some row)
-            (entries-fresh old last.stage.known end.far.stage.knows path)
+        (entries-fresh old last.stage.known end.far.stage.knows path)
         ∙ ap (λ listed. (is_one_of path listed || is_one_of path paths) && is_some (fresh old path)) end.far.listed
         ∙ kept_by path (is_some (fresh old path)) refl
 
@@ -84,7 +86,7 @@ module _ (world : World) (old : ShownRows) (last : LastStage) (end : IsAtEnd wor
 module _ (world : World) (before after : Entries) (last : LastStage) (end : IsAtEnd world (shown no_name before) last)
     (beside : Vec (String Global) Global) (known : AreNeededBeside world beside) (others : Vec (String Global) Global)
     (are : (path : List ℕ) → is_one_of path (map string_bytes others.items) ≡
-        (is_some (before path) && not (row_stays last (map string_bytes beside.items) path)))
+    (is_some (before path) && not (row_stays last (map string_bytes beside.items) path)))
     (left : (path : List ℕ) → after path ≡ (if row_stays last (map string_bytes beside.items) path then before path else None)) where
   abbrev old : ShownRows
   old = shown no_name before
@@ -115,7 +117,7 @@ pub leaves-taken : (world : World) (before after : Entries) (last : LastStage) �
     → (beside : Vec (String Global) Global) → AreNeededBeside world beside
     → (result : Result (Vec (String Global) Global) FilesFault)
     → IfOk result (λ others. (path : List ℕ) → is_one_of path (map string_bytes others.items) ≡
-        (is_some (before path) && not (row_stays last (map string_bytes beside.items) path)))
+    (is_some (before path) && not (row_stays last (map string_bytes beside.items) path)))
     → OnOk result ((path : List ℕ) → after path ≡ (if row_stays last (map string_bytes beside.items) path then before path else None))
     → IfOk result (LeavesFresh (needed_paths world) (shown no_name before) (shown no_name after))
 leaves-taken world before after last end beside known (Ok others) are left = leaves-others world before after last end

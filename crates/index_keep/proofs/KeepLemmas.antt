@@ -78,14 +78,14 @@ module _ (name : List ℕ) (world other : World) (differ : DifferAt name world o
         → (finding_at (other.0, settings) path ≡ finding_at world path) × (questions_at (other.0, settings) path ≡ questions_at world path)
     right_in settings e path apart agrees =
         subst (λ (s : _). (finding_at (other.0, s) path ≡ finding_at world path)
-            × (questions_at (other.0, s) path ≡ questions_at world path)) (sym e)
+        × (questions_at (other.0, s) path ≡ questions_at world path)) (sym e)
         (law world.0 other.0 world.1 path (agrees_too (questions_at world path) apart agrees))
 
     right_too : (path : List ℕ) (row : RowValue) → list_any (λ asked. bytes_eq name asked) row.names ≡ false → IsRightRow world path row
         → IsRightRow other path row
     right_too path row apart right =
         let apart' : list_any (λ asked. bytes_eq name asked) (names_in (questions_at world path)) ≡ false =
-            ap (λ (r : RowValue). list_any (λ asked. bytes_eq name asked) r.names) (sym right.same) ∙ apart in
+        ap (λ (r : RowValue). list_any (λ asked. bytes_eq name asked) r.names) (sym right.same) ∙ apart in
         let same = right_in other.1 differ.settings path apart' right.answered in
         record {
           same = right.same ∙ sym (rows (finding_at other path) (finding_at world path) (questions_at other path)
@@ -108,10 +108,10 @@ module _ (name : List ℕ) (world other : World) (differ : DifferAt name world o
           ∙ ap (λ b. b || asked_one (λ asked. bytes_eq name asked) before.row) e))
       kept_by path row before was is false true e f fresh =
           absurd (false≢true (sym (ap (λ (r : ShownRow). r.stale) is ∙ fresh)
-              ∙ ap (λ b. b || asked_one (λ asked. bytes_eq name asked) before.row) e ∙ f))
+          ∙ ap (λ b. b || asked_one (λ asked. bytes_eq name asked) before.row) e ∙ f))
       kept_by path row before was is false false e f fresh =
           subst (λ (r : ShownRow). IsRightRow other path r.row × (is_there r.row.outcome ≡ true)) is
-              (right_too path before.row f (kept.right path before was e), kept.there path before was e)
+          (right_too path before.row f (kept.right path before was e), kept.there path before was e)
 
       kept_at : (path : List ℕ) (before : Option ShownRow) → old path ≡ before → (row : ShownRow) → new path ≡ Some row → row.stale ≡ false
           → IsRightRow other path row.row × (is_there row.row.outcome ≡ true)
@@ -195,7 +195,7 @@ pub IsProgress-stopped : (world : World) (rows new : ShownRows) (old after : Pro
     → IsProgress world rows old → IsProgress world new after
 IsProgress-stopped world rows new old after (inl same) shows is =
     subst (λ (p : Progress). IsProgress world new p) (sym same)
-        (subst (λ (r : ShownRows). IsProgress world r old) (λ i path. sym (shows path) i) is)
+    (subst (λ (r : ShownRows). IsProgress world r old) (λ i path. sym (shows path) i) is)
 IsProgress-stopped world rows new old after (inr none) shows is = IsProgress-forgotten world new after none
 
 pub IsKept-stopped : {R : Type 0} (entries : R → Entries) (world : World) (old new : R) (before after : Progress) → Stops before after
@@ -251,7 +251,7 @@ module _ (name : List ℕ) (one more : List ℕ → Bool) (is : (other : List �
   row_more marked row =
       ap (λ (stale : Bool). let found : ShownRow = record { row = row; stale = stale } in found)
       (ap (λ b. marked || b) (asked_more row.names) ∙ regroup marked (list_any one row.names)
-          (list_any (λ asked. bytes_eq name asked) row.names))
+      (list_any (λ asked. bytes_eq name asked) row.names))
 
   text_more : (marked : Bool) (row : Option RowValue) → option_map (show_row more marked) row ≡ option_map (stale_if_asked name)
       (option_map (show_row one marked) row)
@@ -284,7 +284,7 @@ module _ (name : List ℕ) (one more : List ℕ → Bool) (is : (other : List �
         let same : stale_if_asked name before ≡ row = cc in
         subst (λ (r : ShownRow). r.stale ≡ asked_one more r.row) same
         (ap (λ b. b || asked_one (λ asked. bytes_eq name asked) before.row) (last.stale path before was)
-            ∙ sym (asked_more before.row.names))
+        ∙ sym (asked_more before.row.names))
 
     -- an index of before the last changes is one of before this change too
     pub IsLast-noted : IsLast more new index
@@ -347,7 +347,7 @@ module _ (enough : KnownRowsAreEnough) (world : World) (rows : ShownRows) (index
         ∙ enough.listed world (entries_in index.rows) (λ path one. is.rows path (needed-has world path (listed-has world path one))));
     needed = λ path some. ap (is_one_of path) needed_as
         ∙ need_if (is_one_of path (needed_paths world)) (has_makefile world path) (fresh_row world path)
-            (sym (ap is_some (current.each path)) ∙ some);
+        (sym (ap is_some (current.each path)) ∙ some);
     stale = λ path row there. fresh_if path (is_evaluated world path) row (sym (current.each path) ∙ there);
   }
 
@@ -363,7 +363,7 @@ module _ (enough : KnownRowsAreEnough) (world : World) (rows : ShownRows) (index
 module _ (enough : KnownRowsAreEnough) (serve : SameMakefilesServe) (name : List ℕ) (world other : World)
     (differ : DifferAt name world other)
     (is_there : Bool) (tells : TellsPresence world name is_there) (rows noted : ShownRows) (notes : (path : List ℕ)
-        → noted path ≡ option_map (stale_if_asked name) (rows path)) where
+    → noted path ≡ option_map (stale_if_asked name) (rows path)) where
   module _ (one more : List ℕ → Bool) (adds : (file : List ℕ) → more file ≡ (bytes_eq name file || one file))
       (stays : stays_there name is_there ≡ true) (now : AreThere more (files_in other)) where
     told : (there makefile : Bool) → (there || not makefile) ≡ true → makefile ≡ true → there ≡ true
@@ -382,7 +382,7 @@ module _ (enough : KnownRowsAreEnough) (serve : SameMakefilesServe) (name : List
     same_at file true same makefile =
         now file (named file same) makefile
         ∙ sym (ap (contains_key (files_in world)) (sym ((bytes_eq-Decides name file).0 same))
-            ∙ was_there (ap is_makefile ((bytes_eq-Decides name file).0 same) ∙ makefile))
+        ∙ was_there (ap is_makefile ((bytes_eq-Decides name file).0 same) ∙ makefile))
     same_at file false same makefile = ap is_some (differ.files file same)
 
     same_makefiles : SameMakefiles (files_in world) (files_in other)
@@ -406,7 +406,7 @@ module _ (enough : KnownRowsAreEnough) (serve : SameMakefilesServe) (name : List
         → contains_key (files_in world) file ≡ true
     before_at file true same changed makefile =
         ap (contains_key (files_in world)) (sym ((bytes_eq-Decides name file).0 same))
-            ∙ was_there (ap is_makefile ((bytes_eq-Decides name file).0 same) ∙ makefile)
+        ∙ was_there (ap is_makefile ((bytes_eq-Decides name file).0 same) ∙ makefile)
     before_at file false same changed makefile = sym (same_at file false same makefile)
         ∙ now file (adds file ∙ or_right (bytes_eq name file) (one file) changed) makefile
 
@@ -422,7 +422,7 @@ module _ (enough : KnownRowsAreEnough) (serve : SameMakefilesServe) (name : List
         let both = and_parts held.were_there (stays_there name is_there) were in
         Serves-noted name (contains_text names) more adds other rows noted held.index notes
         (Serves-still (contains_text names) more adds both.1 now rows held.index
-            (is.serves both.0 (were_before (contains_text names) more adds both.1 now)));
+        (is.serves both.0 (were_before (contains_text names) more adds both.1 now)));
   }
   held_of (Changed names None) is more adds = tt
   held_of (Walking walk) is more adds = tt
@@ -439,7 +439,7 @@ module _ (enough : KnownRowsAreEnough) (serve : SameMakefilesServe) (name : List
       → ((file : List ℕ) → changed_in new file ≡ (bytes_eq name file || changed_in old file)) → IsProgress other noted new
   IsProgress-noted old (Changed names last) is drops adds =
       subst (λ (l : Option HeldIndex). IfSome l (IsHeld (contains_text names) other noted)) (sym drops)
-          (held_of old is (contains_text names) adds)
+      (held_of old is (contains_text names) adds)
   IsProgress-noted old (Walking walk) is drops adds = absurd drops
   IsProgress-noted old (Asking walk ask) is drops adds = absurd drops
   IsProgress-noted old (Current paths) is drops adds = absurd drops
@@ -460,10 +460,10 @@ module _ (law : OneRowMoreLeavesLess) (world : World) (old new : ShownRows) (spe
 
   outcome_there : (other : List ℕ) (same : Bool) → bytes_eq renews.path other ≡ same
       → decides (has_makefile world other) (if same then Some (outcome_at world renews.path) else fresh old other) ≡
-          (if same || false then Some (outcome_at world other) else decided world (fresh old) other)
+      (if same || false then Some (outcome_at world other) else decided world (fresh old) other)
   outcome_there other true same =
       subst (λ at. decides (has_makefile world at) (Some (outcome_at world renews.path)) ≡ Some (outcome_at world at))
-          ((bytes_eq-Decides renews.path other).0 same)
+      ((bytes_eq-Decides renews.path other).0 same)
       (ap (λ b. decides b (Some (outcome_at world renews.path))) (lacking-there world (fresh old) renews.path renews.lacking).0)
   outcome_there other false same = refl
 
@@ -495,7 +495,7 @@ none_left entries (path ∷ paths) have =
 pub lacking-none : (world : World) (rows : ShownRows) → HaveFresh world rows → paths_left world rows ≡ []
 lacking-none world rows have =
     none_left (decided world (fresh rows)) (in_order (needed_paths world))
-        (λ path is. have path (sym (among-in_order (λ one. bytes_eq one path) (needed_paths world)) ∙ is))
+    (λ path is. have path (sym (among-in_order (λ one. bytes_eq one path) (needed_paths world)) ∙ is))
 
 -- rows that are current are fresh
 pub HaveFresh-current : (world : World) (rows : ShownRows) → AreCurrent world rows → HaveFresh world rows
@@ -533,7 +533,7 @@ module _ (old new : Entries) (before after nothing : Progress) (none : HasForgot
   -- a turn that failed, after which nothing is under way
   pub drops-forgotten : ShowsSame (shown (changed_in before) old) (shown no_name new)
       → DropsTurn (refresh_at (shown (changed_in before) old) (begun_in before))
-          (refresh_at (shown (changed_in after) new) (begun_in after))
+      (refresh_at (shown (changed_in after) new) (begun_in after))
   drops-forgotten same = record { rows = shown-forgotten same; begun = ap begun_in is ∙ begun-forgotten nothing none }
 
   pub IsProgress-taken : (world : World) (rows : ShownRows) → IsProgress world rows after

@@ -47,7 +47,7 @@ module _ (test : List ℕ → Bool) (rows : ShownRows) (index : KnownIndex) (las
       option_and_then said_if_fresh row
   left_at path None is =
       ap (λ (b : Bool). if b then None else said_in index.rows path) (asked_not_there path is) ∙ last.says path
-          ∙ ap (option_map said_in_row) is
+      ∙ ap (option_map said_in_row) is
   left_at path (Some row) is =
       ap (λ (b : Bool). if b then None else said_in index.rows path) (asked-there path row is ∙ sym (last.stale path row is))
       ∙ ap (λ (said : Option Said). if row.stale then None else said) (last.says path ∙ ap (option_map said_in_row) is)
@@ -76,7 +76,7 @@ module _ (test : List ℕ → Bool) (rows : ShownRows) (index : KnownIndex) (las
     led_as_before path =
         ap (λ said. known_row (option_or (outcome_of said) (entries_in taken path))) (leaves path)
         ∙ ap (λ said. known_row (option_or (outcome_of (if asked path then None else said_in index.rows path)) (outcome_of said)))
-            (takes path)
+        (takes path)
         ∙ ap known_row (either_part (said_in index.rows path) (asked path))
 
     said_there : (path : List ℕ) (row : Option ShownRow) → rows path ≡ row → is_some (outcome_of (said_in index.rows path)) ≡ is_some row
@@ -101,26 +101,26 @@ module _ (test : List ℕ → Bool) (rows : ShownRows) (index : KnownIndex) (las
         ∙ said_there path (rows path) refl ∙ some
 
     module _ (asking : Vec (String Global) Global) (asks : (path : List ℕ) → is_one_of path (map string_bytes asking.items) ≡ asked path)
-        where
-      abbrev begun : LastLists
-      begun = record { listed = index.paths.listed; last = record { outdated = taken; paths = asking } }
+      where
+        abbrev begun : LastLists
+        begun = record { listed = index.paths.listed; last = record { outdated = taken; paths = asking } }
 
-      needed_as : needed_of left (listed_in begun) begun.last ≡ needed_before index
-      needed_as = ap (λ outcomes. needed_among outcomes (listed_in begun)) led
+        needed_as : needed_of left (listed_in begun) begun.last ≡ needed_before index
+        needed_as = ap (λ outcomes. needed_among outcomes (listed_in begun)) led
 
-      pub recalls-begun : (world : World) → Serves world rows index
-          → RecallsLists world rows left (map string_bytes index.paths.directories.items) begun
-      recalls-begun world serves = record {
-        listed = last.listed ∙ ap (λ outcomes. listed_from outcomes (map string_bytes index.paths.directories.items)) (sym led);
-        last = record {
-          alone = λ path some. (ap (is_one_of path) needed_as ∙ last.needed path some, serves.there path some);
-          missing = λ path one none. serves.missing path (ap (is_one_of path) (sym needed_as) ∙ one) none;
-          outdated = λ path some. sym (said_there path (rows path) refl)
-              ∙ among_taken path (asked path) (ap (λ said. is_some (outcome_of said)) (sym (takes path)) ∙ some);
-          among = λ path one. some_asked path (rows path) refl (sym (asks path) ∙ one);
-          fresh = λ path some apart. left_some path some (sym (asks path) ∙ apart);
-        };
-      }
+        pub recalls-begun : (world : World) → Serves world rows index
+            → RecallsLists world rows left (map string_bytes index.paths.directories.items) begun
+        recalls-begun world serves = record {
+          listed = last.listed ∙ ap (λ outcomes. listed_from outcomes (map string_bytes index.paths.directories.items)) (sym led);
+          last = record {
+            alone = λ path some. (ap (is_one_of path) needed_as ∙ last.needed path some, serves.there path some);
+            missing = λ path one none. serves.missing path (ap (is_one_of path) (sym needed_as) ∙ one) none;
+            outdated = λ path some. sym (said_there path (rows path) refl)
+                ∙ among_taken path (asked path) (ap (λ said. is_some (outcome_of said)) (sym (takes path)) ∙ some);
+            among = λ path one. some_asked path (rows path) refl (sym (asks path) ∙ one);
+            fresh = λ path some apart. left_some path some (sym (asks path) ∙ apart);
+          };
+        }
 
 -- ---- lists that are kept
 
@@ -157,7 +157,7 @@ module _ (law : AlikeRowsListTheSame) (world : World) (path : List ℕ) (said : 
         → (is_one_of other (needed_of known listed last) ≡ true) × (has_makefile world other ≡ true)
     alone_at other true same some =
         subst (λ at. (is_one_of at (needed_of known listed last) ≡ true) × (has_makefile world at ≡ true))
-            ((bytes_eq-Decides path other).0 same)
+        ((bytes_eq-Decides path other).0 same)
         (recalls.alone path (recalls.outdated path (ap is_some names.was)))
     alone_at other false same some = recalls.alone other some
 

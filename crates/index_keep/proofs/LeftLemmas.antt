@@ -61,7 +61,7 @@ module _ (weight : List ℕ → ℕ) (test : List ℕ → Bool) (path : List ℕ
       absurd (false≢true (sym passed ∙ ap test ((bytes_eq-Decides one path).0 same) ∙ passes))
   weight-by one paths false true same passed more there =
       let low : weight path ≤ sum_by weight (one ∷ filter test paths) =
-          omega (arith, more there, sum_by-cons weight one (filter test paths)) in
+      omega (arith, more there, sum_by-cons weight one (filter test paths)) in
       low
   weight-by one paths false false same passed more there = more there
 
@@ -146,14 +146,14 @@ pays_by few law world units old new (turned.Evaluated spent) takes =
     let path = renews.path in
     let less = left_less law world old.rows new.rows (spent_in_all old.begun spent) renews (cost_at world) in
     subst (λ (begun : Spent). units_left world old ≤ ((cost_left world new.rows - begun.units) + spent.units) +
-        (units_saved old.begun.checks + units_saved spent.checks)) (sym takes.renews.1)
+    (units_saved old.begun.checks + units_saved spent.checks)) (sym takes.renews.1)
     (pays_row (cost_at world path) (evaluation_cost world (pair_at world path)) (cost_left world new.rows) (cost_left world old.rows)
-        old.begun.units spent.units old.begun.checks spent.checks
+    old.begun.units spent.units old.begun.checks spent.checks
     (evaluation_few few world (pair_at world path)) less renews.spent.paid)
 pays_by few law world units old new (turned.More spent) takes =
     let rows : new.rows ≡ old.rows = λ i path. takes.rows path i in
     goes_by (cost_left world old.rows) (cost_left world new.rows) old.begun.units spent.units new.begun.units old.begun.checks spent.checks
-        (ap (cost_left world) rows) (ap (λ (s : Spent). s.units) takes.begun)
+    (ap (cost_left world) rows) (ap (λ (s : Spent). s.units) takes.begun)
   where
     goes_by : (left after begun spent now begun_checks checks : ℕ) → after ≡ left → now ≡ begun + spent
         → left - begun ≤ ((after - now) + spent) + (units_saved begun_checks + units_saved checks)
@@ -168,7 +168,7 @@ pays_by few law world units old new turned.Done takes =
 fresh_put : (world : World) (path other : List ℕ) (old : ShownRows) (same there : Bool)
     → is_some (if there then fresh old other else Some Absent) ≡ true
     → is_some (if there then option_and_then fresh_outcome (if same then Some (fresh_row world path) else old other) else Some Absent) ≡
-        true
+    true
 fresh_put world path other old true true is = refl
 fresh_put world path other old false true is = is
 fresh_put world path other old same false is = refl
@@ -204,7 +204,7 @@ RefreshingPays-all law evaluated few = record {
       let less = left_less law world old.rows new.rows all renews (evaluations_at world) in
       let few = subst (λ n. ChecksFew n all.checks) (sym (evaluations-path evaluated world path)) renews.spent.few in
       let one = some_evaluated (evaluations_at world path) (cost_at world path) _ all.units all.checks
-          (one_at_most (is_there (outcome_at world path)))
+      (one_at_most (is_there (outcome_at world path)))
       (none-at world path) few renews.spent.paid some in
       omega (arith, less, one);
   ends = λ world rows current. lacking-none world rows (HaveFresh-current world rows current);

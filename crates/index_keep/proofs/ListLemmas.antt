@@ -22,7 +22,7 @@ map-append f (x ∷ xs) ys = ap (λ rest. f x ∷ rest) (map-append f xs ys)
 pub one_of-more : (texts : List (String Global)) (place : ℕ) (text : String Global) (name : List ℕ) → place < length texts
     → text ≡ get_or texts place text
     → is_one_of name (map string_bytes (take (place + 1) texts)) ≡ (is_one_of name (map string_bytes (take place texts)) || bytes_eq
-        (string_bytes text) name)
+    (string_bytes text) name)
 one_of-more texts place text name inside is =
     ap (λ ts. is_one_of name (map string_bytes ts)) (take_more texts place text inside ∙ ap (λ t. take place texts ++ t ∷ []) (sym is))
     ∙ ap (is_one_of name) (map-append string_bytes (take place texts) (text ∷ []))
@@ -49,7 +49,7 @@ one_of-end path p paths = one_of-append path paths (p ∷ []) ∙ ap (λ b. is_o
 
 added_at : (others : List (List ℕ)) (p path : List ℕ) (added : Bool)
     → is_one_of path (if added then others ++ p ∷ [] else others) ≡ (if added then is_one_of path others || bytes_eq p path
-        else is_one_of path others)
+    else is_one_of path others)
 added_at others p path true = one_of-end path p others
 added_at others p path false = refl
 
@@ -73,7 +73,7 @@ with_start added false a same t before was is = step added a same t before was i
 pub added-more : (start chosen passed : List (List ℕ)) (test : List ℕ → Bool) (p : List ℕ) (added : Bool) → test p ≡ added
     → ((path : List ℕ) → is_one_of path chosen ≡ (is_one_of path start || (is_one_of path passed && test path)))
     → (path : List ℕ) → is_one_of path (if added then chosen ++ p ∷ [] else chosen) ≡
-        (is_one_of path start || (is_one_of path (passed ++ p ∷ []) && test path))
+    (is_one_of path start || (is_one_of path (passed ++ p ∷ []) && test path))
 added-more start chosen passed test p added is were path =
     added_at chosen p path added
     ∙ with_start added (is_one_of path start) (is_one_of path passed) (bytes_eq p path) (test path) (is_one_of path chosen) (were path)
@@ -86,12 +86,12 @@ pub chosen-next : (test : List ℕ → Bool) (texts : List (String Global)) (pla
     → place < length texts → text ≡ get_or texts place text → test (string_bytes text) ≡ added
     → ((path : List ℕ) → is_one_of path chosen ≡ (is_one_of path (map string_bytes (take place texts)) && test path))
     → (path : List ℕ) → is_one_of path (if added then chosen ++ string_bytes text ∷ [] else chosen) ≡
-        (is_one_of path (map string_bytes (take (place + 1) texts)) && test path)
+    (is_one_of path (map string_bytes (take (place + 1) texts)) && test path)
 chosen-next test texts place text chosen added inside is passes were path =
     chosen-more chosen (map string_bytes (take place texts)) test (string_bytes text) added passes were path
     ∙ ap (λ passed. is_one_of path passed && test path)
     (sym (ap (map string_bytes) (take_more texts place text inside ∙ ap (λ t. take place texts ++ t ∷ []) (sym is))
-        ∙ map-append string_bytes (take place texts) (text ∷ [])))
+    ∙ map-append string_bytes (take place texts) (text ∷ [])))
 
 -- the text at a place is one of the texts
 pub one_of-place : (texts : List (String Global)) (place : ℕ) (text : String Global) → place < length texts → text ≡ get_or texts place text
@@ -99,7 +99,7 @@ pub one_of-place : (texts : List (String Global)) (place : ℕ) (text : String G
 one_of-place texts place text inside is =
     list_any-map (λ one. bytes_eq one (string_bytes text)) string_bytes texts
     ∙ list_any_at (λ one. bytes_eq (string_bytes one) (string_bytes text)) texts place text inside
-        ((bytes_eq-Decides _ (string_bytes text)).1 (ap string_bytes (sym is)))
+    ((bytes_eq-Decides _ (string_bytes text)).1 (ap string_bytes (sym is)))
 
 -- the path at the next place passes the test too
 pub passes-more : (test : List ℕ → Bool) (texts : List (String Global)) (place : ℕ) (text : String Global)

@@ -67,7 +67,7 @@ module _ (world : World) (path : List ℕ) where
       → pair_at world path ≡ option_and_then (pair_named world) named
   pair_by other named is =
       ap (λ (b : Bool). if b then pair_in world path None else option_and_then (pair_named world) (path_if_one path)) other
-          ∙ ap (option_and_then (pair_named world)) is
+      ∙ ap (option_and_then (pair_named world)) is
 
   finding_in_named : (named : NamedDirectory) → IsNamed path (Some named) → finding_at world path ≡ finding_in world
       (directory_named named) (flavors_named named)
@@ -111,18 +111,18 @@ module _ (world : World) (path : List ℕ) where
       finding =
           ap (finding_at world) at ∙ finding_in_named named is ∙ ap (finding_of world (flavors_named named)) there
           ∙ ap (λ (n : NamedDirectory). finding_of_evaluation found.makefile (flavors_named n)
-              (means world found.makefile (flavors_named n))) (sym same);
+          (means world found.makefile (flavors_named n))) (sym same);
       questions =
           ap (questions_at world) at ∙ questions_in_named named is
           ∙ ap (λ makefile. places_asked (files_in world) (search_path_of world) (directory_named named) ++ questions_after world
-              (flavors_named named) makefile) there
+          (flavors_named named) makefile) there
           ∙ ap (λ first. first ++ questions_of world.0 world.1 found.makefile (flavors_named named)) (sym asked ∙ sym places)
           ∙ ap (λ (n : NamedDirectory). found.placed ++ questions_of world.0 world.1 found.makefile (flavors_named n)) (sym same);
       pair =
           ap (pair_at world) at ∙ pair_in_named named is
-              ∙ ap (option_map (λ makefile. let one : Pair = record { makefile = makefile; flavors = flavors_named named } in one)) there
+          ∙ ap (option_map (λ makefile. let one : Pair = record { makefile = makefile; flavors = flavors_named named } in one)) there
           ∙ ap (λ (n : NamedDirectory). Some (let one : Pair = record { makefile = found.makefile; flavors = flavors_named n } in one))
-              (sym same);
+          (sym same);
       answered = subst (Agrees (files_in world)) (sym places) answered;
     }
 
@@ -139,7 +139,7 @@ module _ (world : World) (found : FoundPath) (at : IsFoundAt world found) (asked
   right_made is answered = record {
     same = row_is
         ∙ ap (λ (e : Evaluation). row_with (finding_of_evaluation found.makefile (flavors_named found.named) e.outcome)
-            (found.placed ++ e.trace)) is
+        (found.placed ++ e.trace)) is
         ∙ ap₂ row_with (sym at.finding) (sym at.questions);
     answered = subst (Agrees (files_in world)) (ap (λ (e : Evaluation). found.placed ++ e.trace) is ∙ sym at.questions)
         (Agrees-joined (files_in world) found.placed asked.evaluation.value.trace at.answered answered);
@@ -153,7 +153,7 @@ module _ (world : World) (found : FoundPath) (at : IsFoundAt world found) (asked
     row = right_made is answered;
     spent = subst (λ (pair : Option Pair). SpendsOn world (cost_at world (string_bytes found.path)) pair made.spent) (sym at.pair)
         (subst (λ (s : Spent). SpendsOnOne (cost_at world (string_bytes found.path)) (cost_of (evaluation_of (files_in world) key).outcome)
-            1 s)
+        1 s)
         (sym (spent_is ∙ ap (spent_less_saved asked) (ap (λ (r : RowValue). r.cost) (right_made is answered).same)))
         (spends (cost_at world (string_bytes found.path))));
   }
@@ -194,7 +194,7 @@ within-path world path self is units within =
     let all : cost_of outcome ≤ UNITS = cost-within (files_in world) (key_for world.1 makefile flavors) in
     let up = cost_up units makefile flavors outcome low (omega (arith, low, all)) in
     let cost : cost_at world path ≡ (finding_of_evaluation makefile flavors outcome).cost = ap (cost_at world) (sym is.at)
-        ∙ ap (λ (finding : Finding). finding.cost) is.found.finding in
+    ∙ ap (λ (finding : Finding). finding.cost) is.found.finding in
     omega (arith, up, cost)
 
 there_after : (makefile : List ℕ) (flavors : Option (List (List ℕ))) (evaluated : Evaluated) (kind : Kind)
@@ -221,7 +221,7 @@ there makefile flavors (Err failed) = refl
 pub there-found : (world : World) (found : FoundPath) → IsFoundAt world found → has_makefile world (string_bytes found.path) ≡ true
 there-found world found is =
     ap (λ (finding : Finding). is_there finding.outcome) is.finding ∙ there found.makefile (flavors_named found.named)
-        (means world found.makefile (flavors_named found.named))
+    (means world found.makefile (flavors_named found.named))
 
 -- its makefile is there
 pub one-evaluation : (world : World) (path : List ℕ) (self : PathAsk) → IsPathAsk world path self → evaluations_at world path ≡ 1
@@ -241,9 +241,9 @@ module _ (files : FileMap) (found : FoundPath) (asked : Asked) (made : MadeRow)
       let all : cost_of outcome ≤ UNITS = omega (arith, same, cost-within files key) in
       let up = cost_up (cost_of outcome) found.makefile (flavors_named found.named) outcome (omega arith) all in
       let row : (kept_row_seen made.row).cost ≡ (finding_of_evaluation found.makefile (flavors_named found.named) outcome).cost =
-          ap (λ (r : RowValue). r.cost) row_is in
+      ap (λ (r : RowValue). r.cost) row_is in
       let units : made.spent.units ≡ (kept_row_seen made.row).cost - (cost_of outcome - asked.units) =
-          ap (λ (s : Spent). s.units) spent_is in
+      ap (λ (s : Spent). s.units) spent_is in
       record {
         units = omega (arith, up, row, units, same, within-answer files key asked is);
         checks = omega (arith, ap (λ (s : Spent). s.checks) spent_is);
@@ -292,7 +292,7 @@ module _ (files : FileMap) (settings : Settings) (path : PathAsk) (before : Spen
   in-time-on =
       subst (λ (pair : Option Pair). EvaluatesInTime in_world pair units before (spent_in came)) (sym is.found.pair)
       (in-time-looked in_world before (spent_in path.ask) (spent_in came) units given looked.units up.checks given_is asks.unchecked
-          path_pair (asks.in_time path_key is.come))
+      path_pair (asks.in_time path_key is.come))
 
   pub short-on : IsShort units before (spent_in came)
   short-on =
@@ -326,9 +326,9 @@ in-time-made world found asked made units left before at same is spent_is up som
     let evaluation : cost_of asked.evaluation.value.outcome ≡ evaluation_cost world (pair_at world (string_bytes found.path)) =
     ap (λ (e : Evaluation). cost_of e.outcome) same ∙ ap (evaluation_cost world) (sym at.pair) in
     let paid : made.spent.units ≡ (kept_row_seen made.row).cost - (cost_of asked.evaluation.value.outcome - asked.units) =
-        ap (λ (s : Spent). s.units) spent_is in
+    ap (λ (s : Spent). s.units) spent_is in
     inr (made_low units left (cost_at world (string_bytes found.path)) (evaluation_cost world (pair_at world (string_bytes found.path)))
-        before (spent_in (asks.Done asked)) made.spent up some left_is
+    before (spent_in (asks.Done asked)) made.spent up some left_is
     (paid ∙ ap₂ (λ (all : ℕ) (one : ℕ). all - (one - asked.units)) cost evaluation) (ap (λ (s : Spent). s.checks) spent_is))
 
 most_port : (spent : ℕ) (recorded : Result Recorded Failed) → record_units recorded ≤ UNITS
@@ -348,7 +348,7 @@ most_after few records makefile flavors evaluated kinds.Port = most_port evaluat
 most_after few records makefile (Some flavors) evaluated kinds.List = omega arith
 most_after few records makefile None evaluated kinds.List =
     most_list evaluated.cost (value_of_variable evaluated.env makefile (codes "SUBDIR"))
-        (few.values evaluated.env makefile (codes "SUBDIR"))
+    (few.values evaluated.env makefile (codes "SUBDIR"))
 most_after few records makefile flavors evaluated kinds.Other = omega arith
 
 -- what a makefile describes costs few units more than its evaluation

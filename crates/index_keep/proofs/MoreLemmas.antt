@@ -55,7 +55,7 @@ module _ (world : World) (path : List ℕ) (said : Said) (old new : ShownRows) (
         ∙ sym (more.says other);
     passed = subst (λ place. AreDecided world (fresh new) (take place (paths_of after))) (sym knows.place)
         (subst (λ at. AreDecided world (fresh new) (take stage.place at)) (sym same_paths)
-            (decided-more (take stage.place (paths_of stage)) is.passed));
+        (decided-more (take stage.place (paths_of stage)) is.passed));
   }
 
   -- an index of before is still recalled, if the row names the same paths as the outdated one
@@ -66,7 +66,7 @@ module _ (world : World) (path : List ℕ) (said : Said) (old new : ShownRows) (
     lists-more directories lists None alike recalls = tt
     lists-more directories lists (Some one) alike recalls =
         let before : RecallsLists world old stage.known directories one =
-            subst (λ (l : Option LastLists). IfSome l (RecallsLists world old stage.known directories)) alike.0 recalls in record {
+        subst (λ (l : Option LastLists). IfSome l (RecallsLists world old stage.known directories)) alike.0 recalls in record {
           listed = before.listed ∙ sym (listed-more law world path said old new more stage.known after.known says knows.known
               one.last alike.1 directories);
           last = recalls-more law world path said old new more stage.known after.known says knows.known one.last alike.1

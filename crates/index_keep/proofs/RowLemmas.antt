@@ -21,7 +21,7 @@ module _ (path : List ℕ) (row : RowValue) (text : List ℕ) (reads : row_of te
 
   put_by : (old : Entries) (other : List ℕ) (same : Bool)
       → option_and_then (show_stored no_name) (if same then Some (record { stale = false; text = text }) else old other) ≡
-          (if same then Some fresh_one else shown no_name old other)
+      (if same then Some fresh_one else shown no_name old other)
   put_by old other true = shown_fresh
   put_by old other false = refl
 

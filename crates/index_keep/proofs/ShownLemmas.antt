@@ -36,7 +36,7 @@ fresh_stored test stale (Some row) = fresh_by test row stale (asked_one test row
 
 fresh_of : (test : List ℕ → Bool) (stored : Option StoredValue)
     → option_and_then said_if_fresh (option_and_then (show_stored test) stored) ≡ option_and_then
-        (λ (one : StoredValue). said_of (judge test one)) stored
+    (λ (one : StoredValue). said_of (judge test one)) stored
 fresh_of test None = refl
 fresh_of test (Some stored) = fresh_stored test stored.stale (row_of stored.text)
 
@@ -48,11 +48,11 @@ fresh-shown test entries path = fresh_of test (entries path)
 module _ (test : List ℕ → Bool) where
   same_stale : (row : RowValue) (stale asked : Bool) → asked_one test row ≡ asked
       → ((if is_outdated (if stale then Unusable else judge_row test (Some row)) then true else stale) || asked_one no_name row) ≡
-          (stale || asked_one test row)
+      (stale || asked_one test row)
   same_stale row true asked is = refl
   same_stale row false true is =
       ap (λ (b : Bool). (if is_outdated (if b then Outdated else Fresh (said_by row)) then true else false) || asked_one no_name row) is
-          ∙ sym is
+      ∙ sym is
   same_stale row false false is =
       ap (λ (b : Bool). (if is_outdated (if b then Outdated else Fresh (said_by row)) then true else false) || asked_one no_name row) is
       ∙ asked-no_name row.names ∙ sym is
@@ -76,7 +76,7 @@ module _ (test : List ℕ → Bool) where
 
   entry_marked : (stored : Option StoredValue) (marked : Bool) → marked ≡ outdated_at test (λ path. stored) []
       → option_and_then (show_stored no_name) (if marked then option_map store.marked stored else stored) ≡ option_and_then
-          (show_stored test) stored
+      (show_stored test) stored
   entry_marked None true is = refl
   entry_marked None false is = refl
   entry_marked (Some stored) marked is = mark_by stored marked ∙ stored_marked (row_of stored.text) stored.stale marked is
@@ -138,7 +138,7 @@ module _ (test : List ℕ → Bool) where
   entry_asked : (stored : Option StoredValue) (marked : Bool) → ((one : StoredValue) (row : RowValue) → stored ≡ Some one
       → row_of one.text ≡ Some row → asked_one test row ≡ marked)
       → option_and_then (show_stored no_name) (if marked then option_map store.marked stored else stored) ≡ option_and_then
-          (show_stored test) stored
+      (show_stored test) stored
   entry_asked None true is = refl
   entry_asked None false is = refl
   entry_asked (Some stored) marked is = mark_by test stored marked ∙ text_asked (row_of stored.text) stored.stale marked

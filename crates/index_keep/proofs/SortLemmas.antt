@@ -19,7 +19,7 @@ pub one_of-append : (path : List ℕ) (paths more : List (List ℕ))
 one_of-append path [] more = refl
 one_of-append path (first ∷ paths) more =
     ap (λ b. bytes_eq first path || b) (one_of-append path paths more)
-        ∙ regroup (bytes_eq first path) (is_one_of path paths) (is_one_of path more)
+    ∙ regroup (bytes_eq first path) (is_one_of path paths) (is_one_of path more)
 
 pub or-none : (a : Bool) → (a || false) ≡ a
 or-none true = refl
@@ -65,7 +65,7 @@ module _ (test : List ℕ → Bool) (entries : Entries) where
       put_by path true before (Some said) e says was =
           ap (λ (b : Bool). if b then Some said else known path) e
           ∙ sym (ap (λ (found : Option StoredValue). option_and_then (λ (stored : StoredValue). said_of (judge test stored)) found)
-              (here path e) ∙ says)
+          (here path e) ∙ says)
           ∙ sym (ap (λ (b : Bool). if b then fresh_at test entries path else None) (or_true before))
         where
           or_true : (a : Bool) → (a || true) ≡ true
@@ -80,7 +80,7 @@ module _ (test : List ℕ → Bool) (entries : Entries) where
       pub KnowsRows-more : KnowsRows (rows ++ row ∷ []) (known_with test row known)
       KnowsRows-more path =
           put_by path (bytes_eq row.path path) (is_one_of path (map row_path rows))
-              (said_of (judge test (value_in row))) refl refl (knows path)
+          (said_of (judge test (value_in row))) refl refl (knows path)
           ∙ sym (ap (λ (b : Bool). if b then fresh_at test entries path else None) (is_one-more path (bytes_eq row.path path) refl))
 
     module _ (paths : List (List ℕ)) (lists : ListsOutdated rows paths) where
@@ -88,7 +88,7 @@ module _ (test : List ℕ → Bool) (entries : Entries) where
           → is_outdated (judge test (value_in row)) ≡ outdated
           → is_one_of path paths ≡ (before && outdated_at test entries path)
           → (is_one_of path paths || is_one_of path (if outdated then row.path ∷ [] else [])) ≡
-              ((before || same) && outdated_at test entries path)
+          ((before || same) && outdated_at test entries path)
       outdated_by path true before true e says was =
           ap (λ b. is_one_of path paths || b) (or-none (bytes_eq row.path path) ∙ e) ∙ or_true (is_one_of path paths)
           ∙ sym (ap (λ b. (before || true) && b) there ∙ ap (λ b. b && true) (or_true before))
@@ -102,7 +102,7 @@ module _ (test : List ℕ → Bool) (entries : Entries) where
               (here path e) ∙ says
       outdated_by path true before false e says was =
           or-none (is_one_of path paths) ∙ was ∙ ap (λ b. before && b) there ∙ and_false before
-              ∙ sym (ap (λ b. (before || true) && b) there ∙ and_false (before || true))
+          ∙ sym (ap (λ b. (before || true) && b) there ∙ and_false (before || true))
         where
           and_false : (a : Bool) → (a && false) ≡ false
           and_false true = refl
@@ -121,7 +121,7 @@ module _ (test : List ℕ → Bool) (entries : Entries) where
       ListsOutdated-more path =
           one_of-append path paths (outdated_in test row)
           ∙ outdated_by path (bytes_eq row.path path) (is_one_of path (map row_path rows))
-              (is_outdated (judge test (value_in row))) refl refl (lists path)
+          (is_outdated (judge test (value_in row))) refl refl (lists path)
           ∙ sym (ap (λ b. b && outdated_at test entries path) (is_one-more path (bytes_eq row.path path) refl))
 
 -- a row among others

@@ -137,7 +137,7 @@ pub alike-fresh : (world : World) (known outdated : MemoryRows) (paths : List (L
     → AreAlikeAt (led_to known outdated) (known_in (entries_in known)) paths
 alike-fresh world known outdated paths have there path is =
     alike-same path (led_to known outdated path) (known_in (entries_in known) path)
-        (by (entries_in known path) refl (entries_in outdated path) refl)
+    (by (entries_in known path) refl (entries_in outdated path) refl)
   where
     by : (row : Option PathOutcome) → entries_in known path ≡ row → (before : Option PathOutcome) → entries_in outdated path ≡ before
         → known_row row ≡ known_row (option_or row before)
@@ -226,10 +226,10 @@ module _ (world : World) (rows : ShownRows) (kept : AreKept world rows) where
         → IsRightRow world other row.row
     put_right other true same row e stale =
         let there : new other ≡ Some (fresh_row world path) = put other
-            ∙ ap (λ (b : Bool). if b then Some (fresh_row world path) else rows other) same in
+        ∙ ap (λ (b : Bool). if b then Some (fresh_row world path) else rows other) same in
         let the_row : fresh_row world path ≡ row = cc in
         subst (λ (one : ShownRow). IsRightRow world other one.row) the_row (subst (λ at. IsRightRow world at (right_row world path))
-            ((bytes_eq-Decides path other).0 same) right)
+        ((bytes_eq-Decides path other).0 same) right)
     put_right other false same row e stale = kept.right other row
         (sym (put other ∙ ap (λ (b : Bool). if b then Some (fresh_row world path) else rows other) same) ∙ e) stale
 
@@ -237,7 +237,7 @@ module _ (world : World) (rows : ShownRows) (kept : AreKept world rows) where
         → is_there row.row.outcome ≡ true
     put_there other true same row e stale =
         let there : new other ≡ Some (fresh_row world path) = put other
-            ∙ ap (λ (b : Bool). if b then Some (fresh_row world path) else rows other) same in
+        ∙ ap (λ (b : Bool). if b then Some (fresh_row world path) else rows other) same in
         let the_row : fresh_row world path ≡ row = cc in
         subst (λ (one : ShownRow). is_there one.row.outcome ≡ true) the_row makefile
     put_there other false same row e stale = kept.there other row
@@ -298,7 +298,7 @@ module _ (world : World) (rows : ShownRows) (current : AreCurrent world rows) wh
   pub says-current : (known : MemoryRows) → ((path : List ℕ) → said_in known path ≡ fresh_said rows path) → SaysAll rows known
   says-current known says path =
       says path ∙ ap (option_and_then said_if_fresh) (current.each path) ∙ said_if path (is_evaluated world path)
-          ∙ ap (option_map said_in_row) (sym (current.each path))
+      ∙ ap (option_map said_in_row) (sym (current.each path))
 
   abbrev outcome_of : Option ShownRow → PathOutcome
   outcome_of row = known_row (option_map (λ (said : Said). said.outcome) (option_map said_in_row row))
@@ -321,28 +321,28 @@ module _ (old new : ShownRows) (known left : MemoryRows) (needed : List (List �
     (leaves : LeavesFresh needed old new others)
     (says : (path : List ℕ) → said_in known path ≡ fresh_said old path)
     (keeps : (path : List ℕ) → said_in left path ≡ (if is_one_of path (map string_bytes others.items) then None else said_in known path))
-        where
-  nothing_there : (row : Option ShownRow) → is_some row ≡ false → option_and_then said_if_fresh row ≡ None
-  nothing_there None is = refl
-  nothing_there (Some row) is = absurd (false≢true (sym is))
+  where
+    nothing_there : (row : Option ShownRow) → is_some row ≡ false → option_and_then said_if_fresh row ≡ None
+    nothing_there None is = refl
+    nothing_there (Some row) is = absurd (false≢true (sym is))
 
-  not_there : (path : List ℕ) → is_fresh_of needed old path ≡ false → is_one_of path (map string_bytes others.items) ≡ false
-      → (there : Bool) → is_some (old path) ≡ there → fresh_said old path ≡ None
-  not_there path apart other true is = absurd (false≢true (sym other ∙ leaves.all path apart is))
-  not_there path apart other false is = nothing_there (old path) is
+    not_there : (path : List ℕ) → is_fresh_of needed old path ≡ false → is_one_of path (map string_bytes others.items) ≡ false
+        → (there : Bool) → is_some (old path) ≡ there → fresh_said old path ≡ None
+    not_there path apart other true is = absurd (false≢true (sym other ∙ leaves.all path apart is))
+    not_there path apart other false is = nothing_there (old path) is
 
-  left_by : (path : List ℕ) (need other : Bool) → is_fresh_of needed old path ≡ need
-      → is_one_of path (map string_bytes others.items) ≡ other
-      → (if other then None else said_in known path) ≡ option_and_then said_if_fresh (if need then old path else None)
-  left_by path true true e f = absurd (false≢true (sym (leaves.apart path e) ∙ f))
-  left_by path true false e f = says path
-  left_by path false true e f = refl
-  left_by path false false e f = says path ∙ not_there path e f (is_some (old path)) refl
+    left_by : (path : List ℕ) (need other : Bool) → is_fresh_of needed old path ≡ need
+        → is_one_of path (map string_bytes others.items) ≡ other
+        → (if other then None else said_in known path) ≡ option_and_then said_if_fresh (if need then old path else None)
+    left_by path true true e f = absurd (false≢true (sym (leaves.apart path e) ∙ f))
+    left_by path true false e f = says path
+    left_by path false true e f = refl
+    left_by path false false e f = says path ∙ not_there path e f (is_some (old path)) refl
 
-  pub said-left : (path : List ℕ) → said_in left path ≡ fresh_said new path
-  said-left path =
-      keeps path ∙ left_by path (is_fresh_of needed old path) (is_one_of path (map string_bytes others.items)) refl refl
-      ∙ sym (ap (option_and_then said_if_fresh) (leaves.left path))
+    pub said-left : (path : List ℕ) → said_in left path ≡ fresh_said new path
+    said-left path =
+        keeps path ∙ left_by path (is_fresh_of needed old path) (is_one_of path (map string_bytes others.items)) refl refl
+        ∙ sym (ap (option_and_then said_if_fresh) (leaves.left path))
 
 -- ---- the next path of a stage
 
@@ -351,7 +351,7 @@ module _ (world : World) (rows : ShownRows) (paths : List (List ℕ)) (stage : S
   pub passed-known : HasPassed world stage stage.place
   passed-known =
       decided-same world (fresh rows) (entries_in stage.known) (λ path. sym (entries-fresh rows stage.known is.knows path))
-          (take stage.place (paths_of stage)) is.passed
+      (take stage.place (paths_of stage)) is.passed
 
   -- a stage that has come to a place
   pub stage-at : (place : ℕ) → HasPassed world stage place → (more : Stage) → more ≡ record stage { place = place }
@@ -420,7 +420,7 @@ module _ (law : AlikeRowsListTheSame) (enough : KnownRowsAreEnough) (world : Wor
   known_listed : AreDecided world (entries_in next.stage.known) (listed_of next)
   known_listed = subst (AreDecided world (entries_in next.stage.known)) (sym has.far.listed)
       (decided-same world (fresh rows) (entries_in next.stage.known)
-          (λ path. sym (entries-fresh rows next.stage.known has.far.stage.knows path)) (listed_paths world) has.known)
+      (λ path. sym (entries-fresh rows next.stage.known has.far.stage.knows path)) (listed_paths world) has.known)
 
   pub needed-listed : needed_among (known_in (entries_in next.stage.known)) (listed_of next) ≡ needed_paths world
   needed-listed =
@@ -433,7 +433,7 @@ module _ (law : AlikeRowsListTheSame) (enough : KnownRowsAreEnough) (world : Wor
     needed_same =
         sym (law.needed (led_to next.stage.known last.outdated) (known_in (entries_in next.stage.known)) (listed_of next)
         (alike-fresh world next.stage.known last.outdated (listed_of next) known_listed
-            (λ path some. (recalls.alone path (recalls.outdated path some)).1)))
+        (λ path some. (recalls.alone path (recalls.outdated path some)).1)))
         ∙ needed-listed
 
     other_at : (path : List ℕ) → is_one_of path (needed_paths world) ≡ true → is_one_of path (paths_in last) ≡ false → (some : Bool)
@@ -441,7 +441,7 @@ module _ (law : AlikeRowsListTheSame) (enough : KnownRowsAreEnough) (world : Wor
         → is_some (decided world (fresh rows) path) ≡ true
     other_at path one apart true e =
         decided-known world (fresh rows) path (ap is_some (sym (entries-fresh rows next.stage.known has.far.stage.knows path))
-            ∙ recalls.fresh path e apart)
+        ∙ recalls.fresh path e apart)
     other_at path one apart false e = decided-absent world (fresh rows) path
         (recalls.missing path (ap (is_one_of path) needed_same ∙ one) e)
 
@@ -495,14 +495,14 @@ module _ (law : AlikeRowsListTheSame) (enough : KnownRowsAreEnough) (world : Wor
     listed_plain : (path : List ℕ) → has_makefile world path ≡ true → has_comma path ≡ false → is_one_of path (listed_of next) ≡ true
     listed_plain path makefile plain =
         ap (is_one_of path) has.far.listed ∙ listed-from (outcome_at world) (directories (files_in world)) path
-            (of_directories path plain makefile)
+        (of_directories path plain makefile)
 
     among_all : (path : List ℕ) → has_makefile world path ≡ true → is_one_of path (needed_paths world) ≡ true
         → (is_one_of path (listed_of next) || is_one_of path paths) ≡ true
     among_all path makefile one =
         ap (λ b. is_one_of path (listed_of next) || b) (are.are path)
         ∙ all_then (is_one_of path (listed_of next)) (has_comma path) (is_target path) (there path) (listed_plain path makefile)
-            (there_makefile path makefile) (sym (needed_is path) ∙ one)
+        (there_makefile path makefile) (sym (needed_is path) ∙ one)
 
     pub needed-beside : AreNeededBeside world beside
     needed-beside = record {
@@ -514,7 +514,7 @@ module _ (law : AlikeRowsListTheSame) (enough : KnownRowsAreEnough) (world : Wor
 
     module _ (lacking : Vec (String Global) Global)
         (lacks : (path : List ℕ) → is_one_of path (map string_bytes lacking.items) ≡
-            (is_one_of path paths && is_none (entries_in next.stage.known path))) where
+        (is_one_of path paths && is_none (entries_in next.stage.known path))) where
       known_at : (path : List ℕ) (row : Option PathOutcome) → entries_in next.stage.known path ≡ row → (true && is_none row) ≡ false
           → is_some (decided world (entries_in next.stage.known) path) ≡ true
       known_at path None e out = absurd (false≢true (sym out))
@@ -568,12 +568,12 @@ last-at world rows last is place passed more same = record {
 module _ (world : World) (old new : ShownRows) (walk : Walk) (path : List ℕ) (ready : IsReadyFor world old walk path) (made : MadeRow)
     (is : IsMade world path made)
     (puts : (other : List ℕ)
-        → new other ≡ (if bytes_eq (string_bytes made.path) other then Some (record { row = kept_row_seen made.row; stale = false })
-        else old other)) where
+    → new other ≡ (if bytes_eq (string_bytes made.path) other then Some (record { row = kept_row_seen made.row; stale = false })
+    else old other)) where
   put_fresh : (other : List ℕ) → new other ≡ (if bytes_eq path other then Some (fresh_row world path) else old other)
   put_fresh other =
       puts other ∙ ap (λ (r : RowValue). if bytes_eq (string_bytes made.path) other then Some
-          (let one : ShownRow = record { row = r; stale = false } in one) else old other) is.row.same
+      (let one : ShownRow = record { row = r; stale = false } in one) else old other) is.row.same
       ∙ ap (λ at. if bytes_eq at other then Some (fresh_row world path) else old other) is.at
 
   itself : IsRightRow world path (right_row world path)

@@ -46,8 +46,12 @@ stretch-front front rest count is =
     rw (long, take_at front rest count is, drop_at front rest count is) refl
 
 pub Adds-stretch : (old new front : List ℕ) → new ≡ old ++ front → Adds (stretch (length front)) old new front
-Adds-stretch old new front more = record { added = front; are_added = more; are_read = λ rest. stretch-front front
-    rest (length front) refl }
+Adds-stretch old new front more = record {
+  added = front;
+  are_added = more;
+  are_read = λ rest. stretch-front front
+      rest (length front) refl;
+}
 
 number-front : (width : Width) (n : ℕ) (rest : List ℕ) → length (to_le_bytes width n) ≡ byte_len width
     → from_le_bytes width (to_le_bytes width n) ≡ n
@@ -55,7 +59,7 @@ number-front : (width : Width) (n : ℕ) (rest : List ℕ) → length (to_le_byt
 unfolding number
 number-front width n rest long same =
     ap (λ found. read_after found (λ digits. give (from_le_bytes width digits)))
-        (stretch-front (to_le_bytes width n) rest (byte_len width) long)
+    (stretch-front (to_le_bytes width n) rest (byte_len width) long)
     ∙ ap (λ (value : ℕ). Some (value, rest)) same
 
 pub Adds-number : (old new : List ℕ) (n : ℕ) → n < 2 ^ 64 → new ≡ old ++ to_le_bytes w64 n → Adds (number w64) old new n

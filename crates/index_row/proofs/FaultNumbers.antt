@@ -45,9 +45,9 @@ unfolding fault
 Adds-fault old one two new kind name line written p q r same_kind same_name same_line =
     let same : fault_at kind name line ≡ written =
     ap (λ k. fault_at k name line) same_kind ∙ ap (λ n. fault_at written.kind n line) same_name
-        ∙ ap (λ l. fault_at written.kind written.name l) same_line in
+    ∙ ap (λ l. fault_at written.kind written.name l) same_line in
     subst (Adds fault old new) same
     (Adds-then fault_kind (λ kind. text >>= λ name. number w64 >>= λ line. give (fault_at kind name line)) old one new kind
-        (fault_at kind name line) p
+    (fault_at kind name line) p
     (Adds-then text (λ name. number w64 >>= λ line. give (fault_at kind name line)) one two new name (fault_at kind name line) q
     (Adds-last (number w64) (λ line. fault_at kind name line) two new line r)))

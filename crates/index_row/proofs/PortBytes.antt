@@ -35,12 +35,12 @@ unfolding depend
 Adds-depend old one two new kind subpackage item written p q r e f g =
     let same : make_depend kind subpackage item ≡ written =
     ap (λ k. make_depend k subpackage item) e ∙ ap (λ s. make_depend written.kind s item) f
-        ∙ ap (make_depend written.kind written.subpackage) g in
+    ∙ ap (make_depend written.kind written.subpackage) g in
     subst (Adds depend old new) same
     (Adds-then depend_kind (λ kind. text >>= λ subpackage. text >>= λ item. give (make_depend kind subpackage item)) old one new kind
-        (make_depend kind subpackage item) p
+    (make_depend kind subpackage item) p
     (Adds-then text (λ subpackage. text >>= λ item. give (make_depend kind subpackage item)) one two new subpackage
-        (make_depend kind subpackage item) q
+    (make_depend kind subpackage item) q
     (Adds-last text (make_depend kind subpackage) two new item r)))
 
 pub Adds-package : (old one two new : List ℕ) (subpackage : List ℕ) (full : NameParts) (comment : List ℕ) (written : PackageValue)
@@ -50,12 +50,12 @@ unfolding port_package
 Adds-package old one two new subpackage full comment written p q r e f g =
     let same : make_package subpackage full comment ≡ written =
     ap (λ s. make_package s full comment) e ∙ ap (λ n. make_package written.subpackage n comment) f
-        ∙ ap (make_package written.subpackage written.name) g in
+    ∙ ap (make_package written.subpackage written.name) g in
     subst (Adds port_package old new) same
     (Adds-then text (λ subpackage. name >>= λ full. text >>= λ comment. give (make_package subpackage full comment)) old one new subpackage
-        (make_package subpackage full comment) p
+    (make_package subpackage full comment) p
     (Adds-then name (λ full. text >>= λ comment. give (make_package subpackage full comment)) one two new full
-        (make_package subpackage full comment) q
+    (make_package subpackage full comment) q
     (Adds-last text (make_package subpackage full) two new comment r)))
 
 pub Adds-flavors : (old one two new : List ℕ) (chosen proper pseudo : List (List ℕ)) (written : FlavorsValue)
@@ -65,32 +65,32 @@ unfolding flavors
 Adds-flavors old one two new chosen proper pseudo written p q r e f g =
     let same : make_flavors chosen proper pseudo ≡ written =
     ap (λ c. make_flavors c proper pseudo) e ∙ ap (λ t. make_flavors written.chosen t pseudo) f
-        ∙ ap (make_flavors written.chosen written.proper) g in
+    ∙ ap (make_flavors written.chosen written.proper) g in
     subst (Adds flavors old new) same
     (Adds-then texts (λ chosen. texts >>= λ proper. texts >>= λ pseudo. give (make_flavors chosen proper pseudo)) old one new chosen
-        (make_flavors chosen proper pseudo) p
+    (make_flavors chosen proper pseudo) p
     (Adds-then texts (λ proper. texts >>= λ pseudo. give (make_flavors chosen proper pseudo)) one two new proper
-        (make_flavors chosen proper pseudo) q
+    (make_flavors chosen proper pseudo) q
     (Adds-last texts (make_flavors chosen proper) two new pseudo r)))
 
 -- a port by its parts
 pub Adds-port : (old one two three four new : List ℕ) (of : FlavorsValue) (maintainer : List ℕ) (categories : List (List ℕ))
     (packages : List PackageValue) (depends : List DependValue)
     → Adds flavors old one of → Adds text one two maintainer → Adds texts two three categories → Adds (list port_package) three four
-        packages → Adds (list depend) four new depends
+    packages → Adds (list depend) four new depends
     → Adds port old new (make_port of maintainer categories packages depends)
 unfolding port
 Adds-port old one two three four new of maintainer categories packages depends p q r s t =
     let made = make_port of maintainer categories packages depends in
     Adds-then flavors
     (λ of. text >>= λ maintainer. texts >>= λ categories. list port_package >>= λ packages. list depend >>= λ depends. give
-        (make_port of maintainer categories packages depends))
+    (make_port of maintainer categories packages depends))
     old one new of made p
     (Adds-then text (λ maintainer. texts >>= λ categories. list port_package >>= λ packages. list depend >>= λ depends. give
-        (make_port of maintainer categories packages depends))
+    (make_port of maintainer categories packages depends))
     one two new maintainer made q
     (Adds-then texts (λ categories. list port_package >>= λ packages. list depend >>= λ depends. give
-        (make_port of maintainer categories packages depends))
+    (make_port of maintainer categories packages depends))
     two three new categories made r
     (Adds-then (list port_package) (λ packages. list depend >>= λ depends. give (make_port of maintainer categories packages depends))
     three four new packages made s

@@ -20,7 +20,7 @@ pub Adds-row : (old one two new : List ℕ) (value : PathOutcome) (cost : ℕ) (
 unfolding row
 Adds-row old one two new value cost names p q r =
     Adds-then outcome (λ value. number w64 >>= λ cost. texts >>= λ names. give (make_row value cost names)) old one new value
-        (make_row value cost names) p
+    (make_row value cost names) p
     (Adds-then (number w64) (λ cost. texts >>= λ names. give (make_row value cost names)) one two new cost (make_row value cost names) q
     (Adds-last texts (make_row value cost) two new names r))
 

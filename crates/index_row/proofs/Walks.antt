@@ -41,7 +41,7 @@ module _ {A : Type 0} (read : Read A) where
       → with_front (front ++ x ∷ []) (counted_items read (count - (i + 1)) after) ≡ whole
   reads-on front count i bytes after x whole low is so_far =
       sym (ap (with_front front) (items-next count i bytes after x low is) ∙ regroup front x (counted_items read (count - (i + 1)) after))
-          ∙ so_far
+      ∙ so_far
 
   -- it fails where no such thing is
   pub reads-fail : (stop : Unread) (front : List A) (count i : ℕ) (bytes : List ℕ) (whole : Option (List A × List ℕ)) → i < count
@@ -75,10 +75,10 @@ module _ {A : Type 0} (read : Read A) where
         drop-cons things i default low ∙ ap (λ y. y ∷ drop (suc i) things) (sym is) ∙ ap (λ n. x ∷ drop n things) (sym (add-one i)) in
         let both : Adds (counted_items read (suc (length things - (i + 1)))) out new (x ∷ drop (i + 1) things) =
         Adds-then read (λ first. counted_items read (length things - (i + 1)) >>= λ others. give (first ∷ others)) out more new x
-            (x ∷ drop (i + 1) things) one
+        (x ∷ drop (i + 1) things) one
         (Adds-last (counted_items read (length things - (i + 1))) (λ others. x ∷ others) more new (drop (i + 1) things) others) in
         so_far.then_all new (subst (λ n. Adds (counted_items read n) out new (drop i things)) (sym k)
-            (subst (λ xs. Adds (counted_items read (suc (length things - (i + 1)))) out new xs) (sym cut) both));
+        (subst (λ xs. Adds (counted_items read (suc (length things - (i + 1)))) out new xs) (sym cut) both));
   }
 
   pub Written-end : (things : List A) (i : ℕ) (start out : List ℕ) → length things ≤ i → Written things i start out
@@ -89,7 +89,7 @@ module _ {A : Type 0} (read : Read A) where
       let nothing : Adds (counted_items read 0) out out [] = Adds-give [] out out refl in
       so_far.then_all out
       (subst (λ n. Adds (counted_items read n) out out (drop i things)) (sym none)
-          (subst (Adds (counted_items read 0) out out) (sym (drop_all i things high)) nothing))
+      (subst (Adds (counted_items read 0) out out) (sym (drop_all i things high)) nothing))
 
   -- the same for things that are seen by a view
   pub Written-seen : {X : Type 0} (view : X → A) (xs : List X) (i : ℕ) (start out more : List ℕ) (item : X) (x : A) → i < length xs
@@ -104,7 +104,7 @@ module _ {A : Type 0} (read : Read A) where
       → Adds (counted_items read (length xs)) start out (map view xs)
   Written-all view xs i start out high so_far =
       subst (λ n. Adds (counted_items read n) start out (map view xs)) (length-map xs view)
-          (Written-end (map view xs) i start out (omega (arith, high, length-map xs view)) so_far)
+      (Written-end (map view xs) i start out (omega (arith, high, length-map xs view)) so_far)
 
   -- the count, and then the things
   pub Adds-list : (things : List A) (count : ℕ) (old mid new : List ℕ) → Adds (number w64) old mid count

@@ -54,7 +54,7 @@ port_change Earlier old new rows formed inside h =
       };
       are =
           by_part (rows_at new.now.trees) (with_rows Earlier rows (rows_at old.now.trees)) h.are
-              (ap (entries_of_rows (layout Current)) others);
+          (ap (entries_of_rows (layout Current)) others);
     }
 port_change Current old new rows formed inside h =
     let others : new.now.trees 0 ≡ old.now.trees 0 = h.others.0 (λ e. absurd cc) in
@@ -68,7 +68,7 @@ port_change Current old new rows formed inside h =
       };
       are =
           by_part (rows_at new.now.trees) (with_rows Current rows (rows_at old.now.trees))
-              (ap (entries_of_rows (layout Earlier)) others) h.are;
+          (ap (entries_of_rows (layout Earlier)) others) h.are;
     }
 
 -- ---- the marks of rows

@@ -30,7 +30,7 @@ parts-listed [] line block = ap (λ l. ElifPart line ∷ l) (append-nil (block_p
 parts-listed (branch ∷ more) line block =
     ap (λ l. ElifPart branch.0 ∷ l)
     (ap (λ l. block_parts branch.1 ++ l) (parts-listed more line block)
-        ∙ sym (append_assoc (block_parts branch.1) (listed_parts more) (ElifPart line ∷ block_parts block)))
+    ∙ sym (append_assoc (block_parts branch.1) (listed_parts more) (ElifPart line ∷ block_parts block)))
 
 pub depth-listed : (later : List (LogicalLine × Block)) (line : LogicalLine) (block : Block)
     → listed_depth (later ++ (line, block) ∷ []) ≡ max (listed_depth later) (block_depth block)
@@ -43,7 +43,7 @@ parts-from [] end = refl
 parts-from (branch ∷ more) end =
     ap (λ l. ElifPart branch.0 ∷ l)
     (ap (λ l. block_parts branch.1 ++ l) (parts-from more end)
-        ∙ sym (append_assoc (block_parts branch.1) (listed_parts more) (branch_parts end)))
+    ∙ sym (append_assoc (block_parts branch.1) (listed_parts more) (branch_parts end)))
 
 pub depth-from : (later : List (LogicalLine × Block)) (end : Branches) → branch_depth (branches_from later end) ≡ max
     (listed_depth later) (branch_depth end)

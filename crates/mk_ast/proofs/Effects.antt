@@ -18,7 +18,7 @@ pub record HoldsOfEffects (P : LogicalLine → Stage → Block → Part → Part
       → P head (InElif first later last) block ElsePart (GoesOn (InElse first (later ++ (last, block) ∷ [])))
   pub elif_endif : (head : LogicalLine) (first : Block) (later : List (LogicalLine × Block)) (last : LogicalLine) (block : Block)
       → P head (InElif first later last) block EndifPart
-          (Ends (ChoiceTree head first (branches_from (later ++ (last, block) ∷ []) NoBranches)))
+      (Ends (ChoiceTree head first (branches_from (later ++ (last, block) ∷ []) NoBranches)))
   pub else_endif : (head : LogicalLine) (first : Block) (later : List (LogicalLine × Block)) (block : Block)
       → P head (InElse first later) block EndifPart (Ends (ChoiceTree head first (branches_from later (ElseBranch block))))
   pub for_endfor : (head : LogicalLine) (block : Block) → P head InFor block EndforPart (Ends (LoopTree head block))

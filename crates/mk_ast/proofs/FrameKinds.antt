@@ -25,7 +25,7 @@ none-at text at =
     let start = operator_start text at in
     let name = trim_blanks (take start text) in
     elim (is_word name && not (list_any is_mark (take start (outside text)))) as (λ b. IfFramesNone
-        (cond b (Some (AssignmentLine (operator_of (in_front text at)) name (skip_blanks (drop (at + 1) text)))) None))
+    (cond b (Some (AssignmentLine (operator_of (in_front text at)) name (skip_blanks (drop (at + 1) text)))) None))
     [ true ↦ λ line. refl | false ↦ tt ]
 
 none-after : (text : List ℕ) (at : Option ℕ) → IfFramesNone (option_and_then (assignment_at text) at)
@@ -65,9 +65,9 @@ by-kind : (line : LogicalLine) (text : List ℕ) → part_by line (line_kind tex
 unfolding line_kind
 by-kind line text =
     let cases : (b : Bool) → is_command text ≡ b → part_by line (cond b CommandLine (unwrap_or (directive_in text) (plain_kind text))) ≡
-        part_among line (directive_in text) =
+    part_among line (directive_in text) =
     λ b. elim b as (λ b. is_command text ≡ b → part_by line (cond b CommandLine (unwrap_or (directive_in text) (plain_kind text))) ≡
-        part_among line (directive_in text))
+    part_among line (directive_in text))
     [ true ↦ λ is. no-directive line text is | false ↦ λ is. part-or line text (directive_in text) ] in
     cases (is_command text) refl
 

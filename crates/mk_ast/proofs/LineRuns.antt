@@ -31,5 +31,5 @@ pub read-wrong : (limit : ℕ) (held : ReadingState) (line : LogicalLine) (lines
     → HoldsOfAnswer (Err error) (λ answer. answer ≡ with_kind (whole_reading reading))
 read-wrong limit held line lines (errors.Fault fault) reading is stops =
     ap Err stops.1 ∙ ap (λ r. with_kind (whole_reading r)) (let stop : Err line.line ≡ reading =
-        sym (is ∙ read-line limit held line lines None stops.0) in stop)
+    sym (is ∙ read-line limit held line lines None stops.0) in stop)
 read-wrong limit held line lines (errors.Memory _) reading is stops = tt

@@ -33,7 +33,7 @@ run-step limit held next part parts is = run-cons limit held part parts ∙ ap (
 then-run : (limit : ℕ) (first : Option ReadingState) (parts more : List Part)
     → ((held : ReadingState) → run limit held (parts ++ more) ≡ option_and_then (λ n. run limit n more) (run limit held parts))
     → option_and_then (λ n. run limit n (parts ++ more)) first ≡ option_and_then (λ n. run limit n more)
-        (option_and_then (λ n. run limit n parts) first)
+    (option_and_then (λ n. run limit n parts) first)
 then-run limit None parts more each = refl
 then-run limit (Some held) parts more each = each held
 
@@ -61,7 +61,7 @@ pub state-step : (limit : ℕ) (parts : List Part) (held : ReadingState) (part :
     → IfStateAfter limit (parts ++ part ∷ []) (step limit held part)
 state-step limit parts held part is =
     state-both limit (state_parts held) part parts (step limit held part) is.made_of (parts-step limit held part)
-        (within-step limit held part is.within)
+    (within-step limit held part is.within)
 
 state-then : (limit : ℕ) (whole front more : List Part) (first : Option ReadingState) → IfStateAfter limit front first
     → ((held : ReadingState) → IsStateAfter limit front held → IfStateAfter limit whole (run limit held more))
@@ -76,7 +76,7 @@ state-run limit [] parts held is = rw (append-nil parts) is
 state-run limit (part ∷ more) parts held is =
     state-then limit (parts ++ part ∷ more) (parts ++ part ∷ []) more (step limit held part) (state-step limit parts held part is)
     (λ next has. subst (λ l. IfStateAfter limit l (run limit next more)) (append_assoc parts (part ∷ []) more)
-        (state-run limit more (parts ++ part ∷ []) next has))
+    (state-run limit more (parts ++ part ∷ []) next has))
 
 -- a block with another after it
 abbrev pub join : Block → Block → Block
@@ -161,13 +161,13 @@ mutual
       ≡ run limit (state_as (add before (ChoiceTree head current branches)) stack) rest
   run-first NoBranches limit before head current stack rest fits =
       run-step limit (state_as current (open_as before head InIf ∷ stack)) (state_as (add before (ChoiceTree head current NoBranches))
-          stack) EndifPart rest refl
+      stack) EndifPart rest refl
   run-first (ElifBranch line block branches) limit before head current stack rest fits =
       let inner : block_depth block + suc (length stack) ≤ limit = omega arith in
       let later : branch_depth branches + suc (length stack) ≤ limit = omega arith in
       let opened = open_as before head (InElif current [] line) ∷ stack in
       ap (λ l. run limit (state_as current (open_as before head InIf ∷ stack)) (ElifPart line ∷ l))
-          (append_assoc (block_parts block) (branch_parts branches) (EndifPart ∷ rest))
+      (append_assoc (block_parts block) (branch_parts branches) (EndifPart ∷ rest))
       ∙ run-step limit (state_as current (open_as before head InIf ∷ stack)) (state_as EmptyBlock opened) (ElifPart line) _ refl
       ∙ run-block block limit (state_as EmptyBlock opened) (branch_parts branches ++ EndifPart ∷ rest) inner
       ∙ run-later branches limit before head current [] line block stack rest later
@@ -176,7 +176,7 @@ mutual
       run-step limit (state_as current (open_as before head InIf ∷ stack)) (state_as EmptyBlock opened) ElsePart _ refl
       ∙ run-block block limit (state_as EmptyBlock opened) (EndifPart ∷ rest) fits
       ∙ run-step limit (state_as block opened) (state_as (add before (ChoiceTree head current (ElseBranch block))) stack) EndifPart rest
-          refl
+      refl
 
   -- the branches after one of `.elif`
   run-later : (branches : Branches) (limit : ℕ) (before : Block) (head : LogicalLine) (first : Block) (listed : List (LogicalLine × Block))
@@ -186,8 +186,8 @@ mutual
       ≡ run limit (state_as (add before (ChoiceTree head first (branches_from listed (ElifBranch last current branches)))) stack) rest
   run-later NoBranches limit before head first listed last current stack rest fits =
       run-step limit (state_as current (open_as before head (InElif first listed last) ∷ stack))
-          (state_as (add before (ChoiceTree head first (branches_from (listed ++ (last, current) ∷ []) NoBranches))) stack) EndifPart rest
-          refl
+      (state_as (add before (ChoiceTree head first (branches_from (listed ++ (last, current) ∷ []) NoBranches))) stack) EndifPart rest
+      refl
       ∙ ap (λ b. run limit (state_as (add before (ChoiceTree head first b)) stack) rest) (from-append listed last current NoBranches)
   run-later (ElifBranch line block branches) limit before head first listed last current stack rest fits =
       let inner : block_depth block + suc (length stack) ≤ limit = omega arith in
@@ -200,7 +200,7 @@ mutual
       ∙ run-block block limit (state_as EmptyBlock opened) (branch_parts branches ++ EndifPart ∷ rest) inner
       ∙ run-later branches limit before head first all line block stack rest later
       ∙ ap (λ b. run limit (state_as (add before (ChoiceTree head first b)) stack) rest)
-          (from-append listed last current (ElifBranch line block branches))
+      (from-append listed last current (ElifBranch line block branches))
   run-later (ElseBranch block) limit before head first listed last current stack rest fits =
       let all = listed ++ (last, current) ∷ [] in
       let held = state_as current (open_as before head (InElif first listed last) ∷ stack) in
@@ -208,6 +208,6 @@ mutual
       run-step limit held (state_as EmptyBlock opened) ElsePart _ refl
       ∙ run-block block limit (state_as EmptyBlock opened) (EndifPart ∷ rest) fits
       ∙ run-step limit (state_as block opened) (state_as (add before (ChoiceTree head first (branches_from all (ElseBranch block)))) stack)
-          EndifPart rest refl
+      EndifPart rest refl
       ∙ ap (λ b. run limit (state_as (add before (ChoiceTree head first b)) stack) rest)
-          (from-append listed last current (ElseBranch block))
+      (from-append listed last current (ElseBranch block))

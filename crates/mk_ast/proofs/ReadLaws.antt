@@ -42,7 +42,7 @@ read-run limit parts block is =
 pub goes : (limit : ℕ) (parts : List Part) → CanGoOn limit parts → (held : ReadingState) × (run limit start_state parts ≡ Some held)
 goes limit parts can =
     option_and_then_some {P = (held : ReadingState) × (run limit start_state parts ≡ Some held)} (λ n. run limit n can.0)
-        (run limit start_state parts) (state_as can.1 [])
+    (run limit start_state parts) (state_as can.1 [])
     (sym (run-append limit parts can.0 start_state) ∙ read-run limit (parts ++ can.0) can.1 can.2)
     (λ held is after. (held, is))
 
@@ -94,7 +94,7 @@ can-go-on limit parts held is =
       end.0,
       whole limit (parts ++ closers held.stack) end.0
           (run-append limit parts (closers held.stack) start_state ∙ ap (option_and_then (λ n. run limit n (closers held.stack))) is
-              ∙ end.1),
+          ∙ end.1),
     )
 
 -- one part more
@@ -137,8 +137,17 @@ says-on : (limit : ℕ) (from : ReadingState) (line : LogicalLine) (lines : List
     → step limit from (part_of line) ≡ first
     → ((next : ReadingState) → ReadSays limit next lines (read_on limit next lines))
     → ReadSays limit from (line ∷ lines) (go_on_from (λ next. read_on limit next lines) line.line first)
-says-on limit from line lines None is each = record { front = []; line = line; rest = lines; cut = refl; number_is = refl; held =
-    from; reads = run-nil limit from; wrong = is }
+says-on limit from line lines None is each = record {
+  front = [];
+  line = line;
+  rest = lines;
+  cut = refl;
+  number_is = refl;
+  held =
+      from;
+  reads = run-nil limit from;
+  wrong = is;
+}
 says-on limit from line lines (Some next) is each = says-after limit from next line lines (read_on limit next lines) is (each next)
 
 pub read-says : (limit : ℕ) (lines : List LogicalLine) (from : ReadingState) → ReadSays limit from lines (read_on limit from lines)
@@ -180,8 +189,15 @@ cut-next : (lines first second : List LogicalLine) (front : List Part) (part : P
     → parts_of second ≡ part ∷ back
     → IsCutAt lines front part back
 cut-next lines first [] front part back whole' is = absurd (let no : [] ≡ part ∷ back = is in cc)
-cut-next lines first (line ∷ rest) front part back whole' is = record { first = first; line = line; rest = rest; whole =
-    whole'; line_part = cc; rest_parts = cc }
+cut-next lines first (line ∷ rest) front part back whole' is = record {
+  first = first;
+  line = line;
+  rest = rest;
+  whole =
+      whole';
+  line_part = cc;
+  rest_parts = cc;
+}
 
 cut-at : (front : List Part) (part : Part) (back : List Part) (lines : List LogicalLine) → parts_of lines ≡ front ++ part ∷ back
     → IsCutAt lines front part back
@@ -218,10 +234,10 @@ unclosed limit lines block innermost stack is =
     let one = closes innermost.head innermost.stage block in
     let parts : tree_parts one.0 ≡ stage ++ block_parts block ++ closer innermost.stage ∷ [] =
     subst (EffectParts innermost.head innermost.stage block (closer innermost.stage)) one.1
-        (parts-part_effect innermost.head innermost.stage block (closer innermost.stage)) in
+    (parts-part_effect innermost.head innermost.stage block (closer innermost.stage)) in
     let these : parts_of (at.line ∷ at.rest) ≡ stage ++ block_parts block =
     ap (λ p. p ∷ parts_of at.rest) at.line_part ∙ ap (λ l. starts'.first ∷ l) at.rest_parts
-        ∙ ap (λ l. l ++ block_parts block) (sym starts'.parts) in
+    ∙ ap (λ l. l ++ block_parts block) (sym starts'.parts) in
     record {
       front = at.first;
       line = at.line;
@@ -255,7 +271,7 @@ reads-finished limit lines (Err number) says = inl (record {
   wrong = λ can.
       let all = goes limit (parts_of says.front ++ part_of says.line ∷ []) can in
       some-none all.0 (sym all.1 ∙ run-more limit (parts_of says.front) (part_of says.line) says.held says.reads
-          ∙ ap (option_and_then (λ n. run limit n [])) says.wrong);
+      ∙ ap (option_and_then (λ n. run limit n [])) says.wrong);
 })
 
 pub blocks-read : (limit : ℕ) (lines : List LogicalLine) → Reads limit lines (blocks_of limit lines)

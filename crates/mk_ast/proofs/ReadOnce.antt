@@ -49,10 +49,10 @@ run-stops limit [] line rest from held is wrong =
     let same : Some from ≡ Some held = sym (run-nil limit from) ∙ is in
     let e : from ≡ held = cc in
     ap (λ h. go_on_from (λ next. read_on limit next rest) line.line (step limit h (part_of line))) e
-        ∙ ap (go_on_from (λ next. read_on limit next rest) line.line) wrong
+    ∙ ap (go_on_from (λ next. read_on limit next rest) line.line) wrong
 run-stops limit (first ∷ front) line rest from held is wrong =
     on-stops limit front line rest first.line held (step limit from (part_of first))
-        (sym (run-cons limit from (part_of first) (parts_of front)) ∙ is)
+    (sym (run-cons limit from (part_of first) (parts_of front)) ∙ is)
     (λ next reads. run-stops limit front line rest next held reads wrong)
 
 -- a higher limit refuses no more
@@ -61,9 +61,9 @@ begin-more : (limit more : ℕ) (held next : ReadingState) (line : LogicalLine) 
 begin-more limit more held next line stage above is =
     let opened : ReadingState = state_as EmptyBlock (open_as held.current line stage ∷ held.stack) in
     let cases : (b : Bool) → nat_lt (length held.stack) limit ≡ b → cond b (Some opened) None ≡ Some next
-        → begin more held line stage ≡ Some next =
+    → begin more held line stage ≡ Some next =
     λ b. elim b as (λ b. nat_lt (length held.stack) limit ≡ b → cond b (Some opened) None ≡ Some next
-        → begin more held line stage ≡ Some next) [
+    → begin more held line stage ≡ Some next) [
       | true ↦ λ room same.
           let below : length held.stack < limit = ltb-true (length held.stack) limit room in
           let near : length held.stack < more = omega arith in
@@ -88,9 +88,9 @@ higher : (limit more : ℕ) (parts : List Part) (from held : ReadingState) → l
 higher limit more [] from held above is = run-nil more from ∙ sym (run-nil limit from) ∙ is
 higher limit more (part ∷ parts) from held above is =
     option_and_then_some {P = run more from (part ∷ parts) ≡ Some held} (λ n. run limit n parts) (step limit from part) held
-        (sym (run-cons limit from part parts) ∙ is)
+    (sym (run-cons limit from part parts) ∙ is)
     (λ next first rest. run-step more from next part parts (step-more limit more from next part above first)
-        ∙ higher limit more parts next held above rest)
+    ∙ higher limit more parts next held above rest)
 
 -- the last of a block
 last_of : Tree → Block → Tree
@@ -137,12 +137,12 @@ apply_effect-closes : (block before : Block) (innermost : Open) (stack below : L
     → apply_effect innermost stack result ≡ Some (state_as (add before tree) below) → ClosesAt (tree_head tree) block (innermost ∷ stack)
 apply_effect-closes block before innermost stack below tree (GoesOn next) head is =
     absurd (never-empty before tree (let same : Some (state_as EmptyBlock (record innermost { stage = next } ∷ stack)) ≡ Some
-        (state_as (add before tree) below) = is in
+    (state_as (add before tree) below) = is in
     let held : state_as EmptyBlock (record innermost { stage = next } ∷ stack) ≡ state_as (add before tree) below =
-        cc in ap (λ h. h.current) held))
+    cc in ap (λ h. h.current) held))
 apply_effect-closes block before innermost stack below tree (Ends end) head is =
     let held : state_as (add innermost.before end) stack ≡ state_as (add before tree) below =
-        let same : Some (state_as (add innermost.before end) stack) ≡ Some (state_as (add before tree) below) = is in cc in
+    let same : Some (state_as (add innermost.before end) stack) ≡ Some (state_as (add before tree) below) = is in cc in
     let trees : end ≡ tree = same-last innermost.before before end tree (ap (λ h. h.current) held) in
     ap (λ l. Err l.line) (sym head ∙ ap tree_head trees)
 apply_effect-closes block before innermost stack below tree Wrong head is =
@@ -153,7 +153,7 @@ go_on-closes : (stack : List Open) (block before : Block) (below : List Open) (t
 go_on-closes [] block before below tree part is = absurd (let no : None ≡ Some (state_as (add before tree) below) = is in cc)
 go_on-closes (innermost ∷ stack) block before below tree part is =
     apply_effect-closes block before innermost stack below tree (part_effect innermost.head innermost.stage block part)
-        (head-part_effect innermost.head innermost.stage block part) is
+    (head-part_effect innermost.head innermost.stage block part) is
 
 begin-closes : (limit : ℕ) (held : ReadingState) (line : LogicalLine) (stage : Stage) (before : Block) (below : List Open) (tree : Tree)
     → begin limit held line stage ≡ Some (state_as (add before tree) below) → ⊥
@@ -205,11 +205,11 @@ once-wrong limit lines number is =
     λ next. elim next as (λ next. step limit reads.0 (part_of is.line) ≡ next → Err number ≡ blocks_of limit lines) [
       | None ↦ λ stops.
           ap Err is.number_is ∙ sym (ap whole_reading (run-stops limit is.front is.line is.rest start_state reads.0 reads.1 stops))
-              ∙ ap (blocks_of limit) (sym is.cut)
+          ∙ ap (blocks_of limit) (sym is.cut)
       | Some held ↦ λ goes'.
           absurd (is.wrong (can-go-on limit (parts_of is.front ++ part_of is.line ∷ []) held
           (run-more limit (parts_of is.front) (part_of is.line) reads.0 reads.1 ∙ ap (option_and_then (λ n. run limit n []))
-              goes' ∙ run-nil limit held)))
+          goes' ∙ run-nil limit held)))
     ] in
     cases (step limit reads.0 (part_of is.line)) refl
 
@@ -230,7 +230,7 @@ once-unclosed limit lines number is =
     ap (run more held) (sym is.closed ∙ sym (append-nil (tree_parts is.tree))) ∙ run-tree is.tree more held [] fits ∙ run-nil more ends in
     let last : option_and_then (λ n. run more n []) (step more reads.0 is.last) ≡ Some ends =
     sym (run-cons more reads.0 is.last [])
-        ∙ sym (ap (option_and_then (λ n. run more n (is.last ∷ []))) (higher limit more back held reads.0 above behind))
+    ∙ sym (ap (option_and_then (λ n. run more n (is.last ∷ []))) (higher limit more back held reads.0 above behind))
     ∙ sym (run-append more back (is.last ∷ []) held) ∙ all in
     let closing : step more reads.0 is.last ≡ Some ends =
     option_and_then_some {P = step more reads.0 is.last ≡ Some ends} (λ n. run more n []) (step more reads.0 is.last) ends last
@@ -244,8 +244,11 @@ once-unclosed limit lines number is =
 
 pub read-once : (limit : ℕ) (lines : List LogicalLine) (result : Result Block ℕ) → Reads limit lines result → result ≡ blocks_of limit lines
 read-once limit lines (Ok block) is = once-block limit lines block is
-read-once limit lines (Err number) is = elim is [ inl wrong ↦ once-wrong limit lines number wrong | inr open' ↦ once-unclosed
-    limit lines number open' ]
+read-once limit lines (Err number) is = elim is [
+  | inl wrong ↦ once-wrong limit lines number wrong
+  | inr open' ↦ once-unclosed
+      limit lines number open'
+]
 
 -- Two blocks with the same parts are one: a run over the parts leaves both.
 pub parts-one : (one other : Block) → block_parts one ≡ block_parts other → one ≡ other
@@ -254,6 +257,6 @@ parts-one one other is =
     let first : IsReadAs limit (block_parts one) one = record { in_order = refl; not_deep = omega arith } in
     let second : IsReadAs limit (block_parts one) other = record { in_order = sym is; not_deep = omega arith } in
     let both : Some (state_as one []) ≡ Some (state_as other []) = sym (read-run limit (block_parts one) one first)
-        ∙ read-run limit (block_parts one) other second in
+    ∙ read-run limit (block_parts one) other second in
     let held : state_as one [] ≡ state_as other [] = cc in
     ap (λ h. h.current) held

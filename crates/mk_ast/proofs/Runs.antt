@@ -42,7 +42,7 @@ boundary_by text zero utf8 near = IsCharBoundary-start text utf8
 boundary_by text (suc at) utf8 near =
     subst (IsCharBoundary text) (add-one at)
     (IsCharBoundary-after_ascii text at utf8 (omega (arith, near, run-within is_ascii_alphabetic text))
-        (letter_ascii (get_or text at 0) (run-last is_ascii_alphabetic text at (omega (arith, near)))))
+    (letter_ascii (get_or text at 0) (run-last is_ascii_alphabetic text at (omega (arith, near)))))
 
 -- a text may be cut after the letters that it begins with
 pub letters-boundary : (text : List ℕ) (end : ℕ) → IsUtf8 text → end ≡ prefix_len is_ascii_alphabetic text → IsCharBoundary text end

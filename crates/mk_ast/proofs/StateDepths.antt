@@ -40,8 +40,12 @@ depth-part_effect = of-effect (λ head stage block part. EffectFits stage block)
   if_endif = λ head block. omega arith;
   elif_elif = λ head first later last block line. omega (arith, depth-listed later last block);
   elif_else = λ head first later last block. omega (arith, depth-listed later last block);
-  elif_endif = λ head first later last block. omega (arith, depth-listed later last block, depth-from
-      (later ++ (last, block) ∷ []) NoBranches);
+  elif_endif = λ head first later last block. omega (
+    arith,
+    depth-listed later last block,
+    depth-from
+        (later ++ (last, block) ∷ []) NoBranches,
+  );
   else_endif = λ head first later block. omega (arith, depth-from later (ElseBranch block));
   for_endfor = λ head block. omega arith;
   wrong = λ head stage block part. tt;
@@ -67,13 +71,13 @@ within-go_on : (limit : ℕ) (stack : List Open) (block : Block) (part : Part) �
 within-go_on limit [] block part current below = tt
 within-go_on limit (innermost ∷ stack) block part current below =
     within-apply_effect limit innermost stack block (part_effect innermost.head innermost.stage block part) current below
-        (depth-part_effect innermost.head innermost.stage block part)
+    (depth-part_effect innermost.head innermost.stage block part)
 
 within-begin : (limit : ℕ) (held : ReadingState) (line : LogicalLine) (stage : Stage) → IsWithin limit held → stage_depth stage ≡ 0
     → IfWithin limit (begin limit held line stage)
 within-begin limit held line stage is none =
     let next : ReadingState =
-        record { current = EmptyBlock; stack = record { before = held.current; head = line; stage = stage } ∷ held.stack } in
+    record { current = EmptyBlock; stack = record { before = held.current; head = line; stage = stage } ∷ held.stack } in
     let cases : (b : Bool) → nat_lt (length held.stack) limit ≡ b → IfWithin limit (cond b (Some next) None) =
     λ b. elim b as (λ b. nat_lt (length held.stack) limit ≡ b → IfWithin limit (cond b (Some next) None)) [
       | true ↦ λ room.

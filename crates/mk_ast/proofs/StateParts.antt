@@ -47,10 +47,10 @@ parts-part_effect = of-effect EffectParts (record {
   elif_endif = λ head first later last block.
       more-listed (IfPart head ∷ block_parts first) (listed_parts later) (block_parts block) (EndifPart ∷ []) _ (ElifPart last)
       (parts-from (later ++ (last, block) ∷ []) NoBranches ∙ append-nil (listed_parts (later ++ (last, block) ∷ []))
-          ∙ parts-listed later last block);
+      ∙ parts-listed later last block);
   else_endif = λ head first later block.
       more-listed (IfPart head ∷ block_parts first) (listed_parts later) (block_parts block) (EndifPart ∷ []) _ ElsePart
-          (parts-from later (ElseBranch block));
+      (parts-from later (ElseBranch block));
   for_endfor = λ head block. refl;
   wrong = λ head stage block part. tt;
 })
@@ -72,14 +72,14 @@ parts-go_on : (stack : List Open) (block : Block) (part : Part) → StepParts (s
 parts-go_on [] block part = tt
 parts-go_on (innermost ∷ stack) block part =
     parts-apply_effect innermost stack block part (part_effect innermost.head innermost.stage block part)
-        (parts-part_effect innermost.head innermost.stage block part)
+    (parts-part_effect innermost.head innermost.stage block part)
 
 parts-begin : (limit : ℕ) (held : ReadingState) (line : LogicalLine) (stage : Stage) (part : Part) → stage_parts line stage ≡ part ∷ []
     → StepParts (state_parts held) part (begin limit held line stage)
 parts-begin limit held line stage part is =
     elim (nat_lt (length held.stack) limit) as (λ b. StepParts (state_parts held) part
-        (cond b (Some (record { current = EmptyBlock; stack = record { before = held.current; head = line; stage = stage } ∷ held.stack }))
-        None)) [
+    (cond b (Some (record { current = EmptyBlock; stack = record { before = held.current; head = line; stage = stage } ∷ held.stack }))
+    None)) [
       | true ↦
           simp (append-nil, is, append_assoc)
       | false ↦ tt

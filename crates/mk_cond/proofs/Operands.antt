@@ -16,7 +16,7 @@ use Rattle.mk_cond.specs.Truths.{or_truth, later_ands_truth, and_truth, later_no
 module _ (s : Surroundings) where
   or_is : (condition : Condition) (a : Account)
       → or_truth s (condition_tree condition) a ≡ after (and_truth s (conjunction_tree (out-Condition condition).first) a)
-          (later_ands_truth s (later_ands (map conjunction_tree (out-Condition condition).more.items)))
+      (later_ands_truth s (later_ands (map conjunction_tree (out-Condition condition).more.items)))
   or_is condition a = ap (λ tree. or_truth s tree a) (tree-condition condition)
 
   -- the first conjunction, and then those after it
@@ -26,7 +26,7 @@ module _ (s : Surroundings) where
       → or_truth s (condition_tree condition) a ≡ later_ands_truth s (later_ands (map conjunction_tree items)) held b
   or-begins condition items a b held same is =
       or_is condition a ∙ ap (λ end. after end
-          (later_ands_truth s (later_ands (map conjunction_tree (out-Condition condition).more.items)))) is
+      (later_ands_truth s (later_ands (map conjunction_tree (out-Condition condition).more.items)))) is
       ∙ ap (λ more. later_ands_truth s (later_ands (map conjunction_tree more)) held b) (sym same)
 
   -- one that holds decides
@@ -41,20 +41,20 @@ module _ (s : Surroundings) where
   ands_front : (items : List Conjunction) (i : ℕ) (item : Conjunction) (held : Bool) (a : Account) → i < length items
       → item ≡ get_or items i item → held ≡ false
       → later_ands_truth s (later_ands (map conjunction_tree (drop i items))) held a ≡ after (and_truth s (conjunction_tree item) a)
-          (later_ands_truth s (later_ands (map conjunction_tree (drop (i + 1) items))))
+      (later_ands_truth s (later_ands (map conjunction_tree (drop (i + 1) items))))
   ands_front items i item held a within is none =
       ap (λ h. later_ands_truth s (later_ands (map conjunction_tree (drop i items))) h a) none
       ∙ ap (λ rest. later_ands_truth s (later_ands (map conjunction_tree rest)) false a) (drop_more items i item within
-          ∙ ap (λ x. x ∷ drop (i + 1) items) (sym is))
+      ∙ ap (λ x. x ∷ drop (i + 1) items) (sym is))
 
   pub ands-next : (items : List Conjunction) (i : ℕ) (item : Conjunction) (held next : Bool) (a b : Account) → i < length items
       → item ≡ get_or items i item → held ≡ false
       → and_truth s (conjunction_tree item) a ≡ Ok (next, b)
       → later_ands_truth s (later_ands (map conjunction_tree (drop i items))) held a ≡ later_ands_truth s
-          (later_ands (map conjunction_tree (drop (i + 1) items))) next b
+      (later_ands (map conjunction_tree (drop (i + 1) items))) next b
   ands-next items i item held next a b within is none gives =
       ands_front items i item held a within is none
-          ∙ ap (λ end. after end (later_ands_truth s (later_ands (map conjunction_tree (drop (i + 1) items))))) gives
+      ∙ ap (λ end. after end (later_ands_truth s (later_ands (map conjunction_tree (drop (i + 1) items))))) gives
 
   pub ands-stop : (items : List Conjunction) (i : ℕ) (item : Conjunction) (held : Bool) (a : Account) (end : FaultKind × Account)
       → i < length items → item ≡ get_or items i item → held ≡ false
@@ -62,7 +62,7 @@ module _ (s : Surroundings) where
       → later_ands_truth s (later_ands (map conjunction_tree (drop i items))) held a ≡ Err end
   ands-stop items i item held a end within is none stops =
       ands_front items i item held a within is none
-          ∙ ap (λ stop. after stop (later_ands_truth s (later_ands (map conjunction_tree (drop (i + 1) items))))) stops
+      ∙ ap (λ stop. after stop (later_ands_truth s (later_ands (map conjunction_tree (drop (i + 1) items))))) stops
 
   pub ands-end : (items : List Conjunction) (i : ℕ) (held : Bool) (a : Account) → i ≡ length items
       → later_ands_truth s (later_ands (map conjunction_tree (drop i items))) held a ≡ Ok (held, a)
@@ -71,7 +71,7 @@ module _ (s : Surroundings) where
 
   and_is : (conjunction : Conjunction) (a : Account)
       → and_truth s (conjunction_tree conjunction) a ≡ after (not_truth s (term_tree (out-Conjunction conjunction).first) a)
-          (later_nots_truth s (later_nots (map term_tree (out-Conjunction conjunction).more.items)))
+      (later_nots_truth s (later_nots (map term_tree (out-Conjunction conjunction).more.items)))
   and_is conjunction a = ap (λ tree. and_truth s tree a) (tree-conjunction conjunction)
 
   -- the first term, and then those after it
@@ -81,7 +81,7 @@ module _ (s : Surroundings) where
       → and_truth s (conjunction_tree conjunction) a ≡ later_nots_truth s (later_nots (map term_tree items)) held b
   and-begins conjunction items a b held same is =
       and_is conjunction a ∙
-          ap (λ end. after end (later_nots_truth s (later_nots (map term_tree (out-Conjunction conjunction).more.items)))) is
+      ap (λ end. after end (later_nots_truth s (later_nots (map term_tree (out-Conjunction conjunction).more.items)))) is
       ∙ ap (λ more. later_nots_truth s (later_nots (map term_tree more)) held b) (sym same)
 
   -- one that doesn't hold decides
@@ -96,27 +96,27 @@ module _ (s : Surroundings) where
   nots_front : (items : List Term) (i : ℕ) (item : Term) (held : Bool) (a : Account) → i < length items
       → item ≡ get_or items i item → held ≡ true
       → later_nots_truth s (later_nots (map term_tree (drop i items))) held a ≡ after (not_truth s (term_tree item) a)
-          (later_nots_truth s (later_nots (map term_tree (drop (i + 1) items))))
+      (later_nots_truth s (later_nots (map term_tree (drop (i + 1) items))))
   nots_front items i item held a within is all =
       ap (λ h. later_nots_truth s (later_nots (map term_tree (drop i items))) h a) all
       ∙ ap (λ rest. later_nots_truth s (later_nots (map term_tree rest)) true a) (drop_more items i item within
-          ∙ ap (λ x. x ∷ drop (i + 1) items) (sym is))
+      ∙ ap (λ x. x ∷ drop (i + 1) items) (sym is))
 
   pub nots-next : (items : List Term) (i : ℕ) (item : Term) (held next : Bool) (a b : Account) → i < length items
       → item ≡ get_or items i item → held ≡ true
       → not_truth s (term_tree item) a ≡ Ok (next, b)
       → later_nots_truth s (later_nots (map term_tree (drop i items))) held a ≡ later_nots_truth s
-          (later_nots (map term_tree (drop (i + 1) items))) next b
+      (later_nots (map term_tree (drop (i + 1) items))) next b
   nots-next items i item held next a b within is all gives =
       nots_front items i item held a within is all
-          ∙ ap (λ end. after end (later_nots_truth s (later_nots (map term_tree (drop (i + 1) items))))) gives
+      ∙ ap (λ end. after end (later_nots_truth s (later_nots (map term_tree (drop (i + 1) items))))) gives
 
   pub nots-stop : (items : List Term) (i : ℕ) (item : Term) (held : Bool) (a : Account) (end : FaultKind × Account) → i < length items
       → item ≡ get_or items i item → held ≡ true
       → not_truth s (term_tree item) a ≡ Err end → later_nots_truth s (later_nots (map term_tree (drop i items))) held a ≡ Err end
   nots-stop items i item held a end within is all stops =
       nots_front items i item held a within is all
-          ∙ ap (λ stop. after stop (later_nots_truth s (later_nots (map term_tree (drop (i + 1) items))))) stops
+      ∙ ap (λ stop. after stop (later_nots_truth s (later_nots (map term_tree (drop (i + 1) items))))) stops
 
   pub nots-end : (items : List Term) (i : ℕ) (held : Bool) (a : Account) → i ≡ length items
       → later_nots_truth s (later_nots (map term_tree (drop i items))) held a ≡ Ok (held, a)

@@ -38,8 +38,12 @@ pub part-All : (P : Token → Type 0) (part all : List Token) → IsPart part al
 part-All P part all h each = front P part h.behind (back P h.before (part ++ h.behind) (subst (All P) h.is each))
 
 after_more : (front part all : List Token) → IsPart part all → IsPart part (front ++ all)
-after_more front part all h = record { before = front ++ h.before; behind = h.behind; is = ap (λ l. front ++ l) h.is
-    ∙ sym (append_assoc front h.before (part ++ h.behind)) }
+after_more front part all h = record {
+  before = front ++ h.before;
+  behind = h.behind;
+  is = ap (λ l. front ++ l) h.is
+      ∙ sym (append_assoc front h.before (part ++ h.behind));
+}
 
 first_part : (part rest : List Token) → IsPart part (part ++ rest)
 first_part part rest = record { before = []; behind = rest; is = refl }
@@ -57,10 +61,10 @@ one_of_ands [] i item within is = absurd (omega arith)
 one_of_ands (and ∷ items) zero item within is =
     subst (λ x. IsPart (and_tokens (conjunction_tree x)) (later_and_tokens (later_ands (map conjunction_tree (and ∷ items))))) (sym is)
     (after_more (t.Or ∷ []) (and_tokens (conjunction_tree and)) _
-        (first_part (and_tokens (conjunction_tree and)) (later_and_tokens (later_ands (map conjunction_tree items)))))
+    (first_part (and_tokens (conjunction_tree and)) (later_and_tokens (later_ands (map conjunction_tree items)))))
 one_of_ands (and ∷ items) (suc i) item within is =
     after_more (t.Or ∷ and_tokens (conjunction_tree and)) (and_tokens (conjunction_tree item))
-        (later_and_tokens (later_ands (map conjunction_tree items))) (one_of_ands items i item (omega arith) is)
+    (later_and_tokens (later_ands (map conjunction_tree items))) (one_of_ands items i item (omega arith) is)
 
 pub later-and : (condition : Condition) (items : List Conjunction) (i : ℕ) (item : Conjunction)
     → items ≡ (out-Condition condition).more.items → i < length items → item ≡ get_or items i item
@@ -69,7 +73,7 @@ later-and condition items i item same within is =
     subst (λ tree. IsPart (and_tokens (conjunction_tree item)) (or_tokens tree)) (sym (tree-condition condition))
     (after_more (and_tokens (conjunction_tree (out-Condition condition).first)) (and_tokens (conjunction_tree item)) _
     (subst (λ more. IsPart (and_tokens (conjunction_tree item)) (later_and_tokens (later_ands (map conjunction_tree more)))) same
-        (one_of_ands items i item within is)))
+    (one_of_ands items i item within is)))
 
 -- a term of a conjunction
 pub first-not : (conjunction : Conjunction) → IsPart (not_tokens (term_tree (out-Conjunction conjunction).first))
@@ -84,10 +88,10 @@ one_of_nots [] i item within is = absurd (omega arith)
 one_of_nots (term ∷ items) zero item within is =
     subst (λ x. IsPart (not_tokens (term_tree x)) (later_not_tokens (later_nots (map term_tree (term ∷ items))))) (sym is)
     (after_more (t.And ∷ []) (not_tokens (term_tree term)) _
-        (first_part (not_tokens (term_tree term)) (later_not_tokens (later_nots (map term_tree items)))))
+    (first_part (not_tokens (term_tree term)) (later_not_tokens (later_nots (map term_tree items)))))
 one_of_nots (term ∷ items) (suc i) item within is =
     after_more (t.And ∷ not_tokens (term_tree term)) (not_tokens (term_tree item)) (later_not_tokens (later_nots (map term_tree items)))
-        (one_of_nots items i item (omega arith) is)
+    (one_of_nots items i item (omega arith) is)
 
 pub later-not : (conjunction : Conjunction) (items : List Term) (i : ℕ) (item : Term) → items ≡ (out-Conjunction conjunction).more.items
     → i < length items → item ≡ get_or items i item
@@ -96,7 +100,7 @@ later-not conjunction items i item same within is =
     subst (λ tree. IsPart (not_tokens (term_tree item)) (and_tokens tree)) (sym (tree-conjunction conjunction))
     (after_more (not_tokens (term_tree (out-Conjunction conjunction).first)) (not_tokens (term_tree item)) _
     (subst (λ more. IsPart (not_tokens (term_tree item)) (later_not_tokens (later_nots (map term_tree more)))) same
-        (one_of_nots items i item within is)))
+    (one_of_nots items i item within is)))
 
 -- what is in a term
 pub in-turned : (term : Term) (inner : Box Term Global) → term ≡ v.Not inner → not_tokens (term_tree term) ≡ t.Not ∷
@@ -146,7 +150,7 @@ module _ (P : Token → Type 0) where
       → All P (not_tokens (term_tree term)) → P (t.Side right)
   in_right term left comparison right is all =
       All-head P (t.Side right) [] (All-tail P (t.Compare comparison) (t.Side right ∷ [])
-          (All-tail P (t.Side left) (t.Compare comparison ∷ t.Side right ∷ []) (in_compare term left comparison right is all)))
+      (All-tail P (t.Side left) (t.Compare comparison ∷ t.Side right ∷ []) (in_compare term left comparison right is all)))
 
   pub in_side : (term : Term) (side : Side) → term ≡ v.Side side → All P (not_tokens (term_tree term)) → P (t.Side side)
   in_side term side is all = All-head P _ [] (subst (λ tree. All P (not_tokens tree)) (ap term_tree is ∙ tree-side side) all)

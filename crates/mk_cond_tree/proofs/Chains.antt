@@ -35,7 +35,7 @@ module _ {A : Type 0} (sign : List Token → Option (List Token)) (read : Reader
       → IfSome behind (λ rest. length rest < size)
       → ((left : List Token) → length left < size → one left ≡ other left)
       → operands_after (λ rest. operand_on one (read rest)) tokens behind ≡ operands_after
-          (λ rest. operand_on other (read rest)) tokens behind
+      (λ rest. operand_on other (read rest)) tokens behind
   same_signed one other tokens None size low agree = refl
   same_signed one other tokens (Some rest) size low agree = same_operand one other (read rest) size
       (lower (read rest) (length rest) size (shrinks rest) low) agree

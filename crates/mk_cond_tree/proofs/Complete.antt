@@ -22,30 +22,30 @@ read_ands levels tokens = option_map (λ x. (later_ands x.0, x.1)) (operands aft
 first_not : (not : NotTree) (x : Option (List NotTree × List Token))
     → option_map {U = AndTree × List Token} (λ later. (AndOf not (later_nots later.0), later.1)) x
     ≡ option_map {U = AndTree × List Token} (λ y. (AndOf not y.0, y.1))
-        (option_map {U = LaterNots × List Token} (λ x. (later_nots x.0, x.1)) x)
+    (option_map {U = LaterNots × List Token} (λ x. (later_nots x.0, x.1)) x)
 first_not not None = refl
 first_not not (Some x) = refl
 
 first_and : (and : AndTree) (x : Option (List AndTree × List Token))
     → option_map {U = OrTree × List Token} (λ later. (OrOf and (later_ands later.0), later.1)) x
     ≡ option_map {U = OrTree × List Token} (λ y. (OrOf and y.0, y.1))
-        (option_map {U = LaterAnds × List Token} (λ x. (later_ands x.0, x.1)) x)
+    (option_map {U = LaterAnds × List Token} (λ x. (later_ands x.0, x.1)) x)
 first_and and None = refl
 first_and and (Some x) = refl
 
 more_nots : (not : NotTree) (x : Option (List NotTree × List Token))
     → option_map {U = LaterNots × List Token} (λ x. (later_nots x.0, x.1))
-        (option_map {U = List NotTree × List Token} (λ later. (not ∷ later.0, later.1)) x)
+    (option_map {U = List NotTree × List Token} (λ later. (not ∷ later.0, later.1)) x)
     ≡ option_map {U = LaterNots × List Token} (λ y. (MoreNots not y.0, y.1))
-        (option_map {U = LaterNots × List Token} (λ x. (later_nots x.0, x.1)) x)
+    (option_map {U = LaterNots × List Token} (λ x. (later_nots x.0, x.1)) x)
 more_nots not None = refl
 more_nots not (Some x) = refl
 
 more_ands : (and : AndTree) (x : Option (List AndTree × List Token))
     → option_map {U = LaterAnds × List Token} (λ x. (later_ands x.0, x.1))
-        (option_map {U = List AndTree × List Token} (λ later. (and ∷ later.0, later.1)) x)
+    (option_map {U = List AndTree × List Token} (λ later. (and ∷ later.0, later.1)) x)
     ≡ option_map {U = LaterAnds × List Token} (λ y. (MoreAnds and y.0, y.1))
-        (option_map {U = LaterAnds × List Token} (λ x. (later_ands x.0, x.1)) x)
+    (option_map {U = LaterAnds × List Token} (λ x. (later_ands x.0, x.1)) x)
 more_ands and None = refl
 more_ands and (Some x) = refl
 
@@ -66,7 +66,7 @@ nots_more : (levels : ℕ) (tokens left : List Token) (not : NotTree) → read_n
 nots_more levels tokens left not is =
     ap (option_map {U = LaterNots × List Token} (λ x. (later_nots x.0, x.1)))
     (operands-next after_and (read_not levels) and-takes (not-shrinks levels) (t.And ∷ tokens)
-        ∙ ap (operand_on (operands after_and (read_not levels))) is)
+    ∙ ap (operand_on (operands after_and (read_not levels))) is)
     ∙ more_nots not (operands after_and (read_not levels) left)
 
 ands_more : (levels : ℕ) (tokens left : List Token) (and : AndTree) → read_and levels tokens ≡ Some (and, left)
@@ -74,7 +74,7 @@ ands_more : (levels : ℕ) (tokens left : List Token) (and : AndTree) → read_a
 ands_more levels tokens left and is =
     ap (option_map {U = LaterAnds × List Token} (λ x. (later_ands x.0, x.1)))
     (operands-next after_or (read_and levels) or-takes (and-shrinks levels) (t.Or ∷ tokens)
-        ∙ ap (operand_on (operands after_or (read_and levels))) is)
+    ∙ ap (operand_on (operands after_or (read_and levels))) is)
     ∙ more_ands and (operands after_or (read_and levels) left)
 
 -- what may follow a term, and a conjunction
@@ -116,7 +116,7 @@ mutual
       ∙ nots_more levels (not_tokens not ++ (later_not_tokens more ++ rest)) (later_not_tokens more ++ rest) not
       (not-complete not levels (later_not_tokens more ++ rest) (omega arith) (nots_follow more rest is))
       ∙ ap (option_map {U = LaterNots × List Token} (λ y. (MoreNots not y.0, y.1)))
-          (later-not-complete more levels rest (omega arith) is ends)
+      (later-not-complete more levels rest (omega arith) is ends)
 
   pub and-complete : (and : AndTree) (levels : ℕ) (rest : List Token) → and_depth and ≤ levels
       → first_comparison rest ≡ None → after_and rest ≡ None
@@ -137,7 +137,7 @@ mutual
       ∙ ands_more levels (and_tokens and ++ (later_and_tokens more ++ rest)) (later_and_tokens more ++ rest) and
       (and-complete and levels (later_and_tokens more ++ rest) (omega arith) (ands_follow more rest is) (ands_part more rest parts))
       ∙ ap (option_map {U = LaterAnds × List Token} (λ y. (MoreAnds and y.0, y.1)))
-          (later-and-complete more levels rest (omega arith) is parts ends)
+      (later-and-complete more levels rest (omega arith) is parts ends)
 
   pub or-complete : (or : OrTree) (levels : ℕ) (rest : List Token) → or_depth or ≤ levels → first_comparison rest ≡ None
       → after_and rest ≡ None → after_or rest ≡ None
@@ -148,13 +148,13 @@ mutual
       (and-complete and levels (later_and_tokens more ++ rest) (omega arith) (ands_follow more rest is) (ands_part more rest parts))
       ∙ first_and and (operands after_or (read_and levels) (later_and_tokens more ++ rest))
       ∙ ap (option_map {U = OrTree × List Token} (λ y. (OrOf and y.0, y.1)))
-          (later-and-complete more levels rest (omega arith) is parts ends)
+      (later-and-complete more levels rest (omega arith) is parts ends)
 
 -- the tree of tokens is read
 pub tree-read : (limit : ℕ) (tokens : List Token) (tree : OrTree) → IsTreeOf limit tokens tree → tree_of_tokens limit tokens ≡ Some tree
 tree-read limit tokens tree is =
     ap with_nothing_left (ap (read_or limit) (sym is.in_order ∙ sym (append-nil (or_tokens tree)))
-        ∙ or-complete tree limit [] is.not_deep refl refl refl)
+    ∙ or-complete tree limit [] is.not_deep refl refl refl)
 
 pub none_some : {tree : OrTree} → None ≡ Some tree → ⊥
 none_some is = cc

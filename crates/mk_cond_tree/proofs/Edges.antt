@@ -156,8 +156,11 @@ module _ (bytes : List ℕ) where
   next_stop : (at n : ℕ) (rest : List ℕ) → drop at bytes ≡ rest → is_stop n ≡ true → begins n rest ≡ true → StopAt bytes at
   next_stop at n [] is stop there = absurd (cc there)
   next_stop at n (c ∷ rest) is stop there =
-      elim (eqb_tells c n) [ inl same ↦ stop_at at c rest is (subst (λ m. is_stop m ≡ true) (sym same.1) stop) | inr
-          other ↦ absurd (cc (there, other.0)) ]
+      elim (eqb_tells c n) [
+        | inl same ↦ stop_at at c rest is (subst (λ m. is_stop m ≡ true) (sym same.1) stop)
+        | inr
+            other ↦ absurd (cc (there, other.0))
+      ]
 
   sign_found : (at : ℕ) (rest : List ℕ) (two one : Token) (doubled : Bool) → StopAt bytes at → drop (at + 1) bytes ≡ rest
       → begins 61 rest ≡ doubled → Edged two → Edged one
@@ -186,11 +189,11 @@ module _ (bytes : List ℕ) where
       → at < left → drop left bytes ≡ text → drop (left + 1) bytes ≡ behind
       → begins 40 text ≡ test
       → IfSome (cond test (call_token call (left + 1) (closing_place (left + 1) 0 behind))
-          (Some (t.Side (Bare (record { start = at; end = end })), end))) (Found at)
+      (Some (t.Side (Bare (record { start = at; end = end })), end))) (Found at)
   opened_found at end left call text behind true edge end_edge low more is next there =
       call_found at call (left + 1) (closing_place (left + 1) 0 behind) (omega arith)
-          (after_stop left (next_stop left 40 text is refl there)) (closing_place-stop (left + 1) 0 behind next)
-          (closing_low (left + 1) 0 behind)
+      (after_stop left (next_stop left 40 text is refl there)) (closing_place-stop (left + 1) 0 behind next)
+      (closing_low (left + 1) 0 behind)
   opened_found at end left call text behind false edge end_edge low more is next there = ((edge, end_edge, omega arith), end_edge, low)
 
   word_found : (at end left : ℕ) (call : Option Call) → IsEdge bytes at → IsEdge bytes end → at < end → at + 1 ≤ left
@@ -209,7 +212,7 @@ module _ (bytes : List ℕ) where
       let left : ℕ = blanks_end end (drop (end - (at + 1)) rest) in
       let more : end ≤ left = end-low (λ c. not (is_blank c)) end (drop (end - (at + 1)) rest) in
       word_found at end left (call_of (b ∷ take (end - (at + 1)) rest)) edge (side-edge (at + 1) rest (omega arith) refl)
-          (omega arith) (omega arith)
+      (omega arith) (omega arith)
 
   stop_here : (at b n : ℕ) → at < length bytes → get_or bytes at 0 ≡ b → b ≡ n → is_stop n ≡ true → StopAt bytes at
   stop_here at b n room there is stop = record { inside = room; stop = subst (λ m. is_stop m ≡ true) (sym (there ∙ is)) stop }
@@ -294,7 +297,7 @@ module _ (bytes : List ℕ) where
       let here : at + 0 ≡ at = omega arith in
       let next : at + 1 ≡ at + 1 + 0 = omega arith in
       walked_on at b rest is (is_blank b) refl (walk (at + 1) 0 rest)
-          (token_before (λ end. walk (at + 1) (end - (at + 1)) rest) (token_at at b rest))
+      (token_before (λ end. walk (at + 1) (end - (at + 1)) rest) (token_at at b rest))
       (λ stop. walk-edged (at + 1) 0 rest h.2 (subst (IsEdge bytes) next (after_stop at stop)))
       (before_edged at rest (token_at at b rest)
       (subst (λ l. IfSome (token_at at b l) (Found at)) h.2 (token_found at b (subst (IsEdge bytes) here edge) h.0 h.1))

@@ -33,6 +33,6 @@ module _ (law : OutsideKeepsPlaces) (text : List ℕ) (utf8 : IsUtf8 text) where
   places-in tree condition =
       let edged : IfSome (tokens_of (outside text)) (All (Edged (outside text))) =
       subst (λ o. IfSome o (All (Edged (outside text)))) (walk-tokens (outside text))
-          (walk-edged (outside text) 0 0 (outside text) refl (AtStart (omega arith))) in
+      (walk-edged (outside text) 0 0 (outside text) refl (AtStart (omega arith))) in
       let all : All (Edged (outside text)) condition.tokens = subst (λ o. IfSome o (All (Edged (outside text)))) condition.cut edged in
       subst (All (IsTokenIn text)) (sym condition.read.in_order) (tokens_in condition.tokens all)

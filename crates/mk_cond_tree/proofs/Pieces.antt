@@ -38,7 +38,7 @@ cut_end p at [] = omega arith
 cut_end p at (b ∷ rest) =
     let parts : Bool → List ℕ × List ℕ = λ v. cond v ([], b ∷ rest) (b ∷ (cut_before p rest).0, (cut_before p rest).1) in
     elim (p b) as (λ v. cond v at (first_or_end p (at + 1) rest) ≡ at + length (parts v).0)
-        [ true ↦ omega arith | false ↦ omega (arith, cut_end p (at + 1) rest) ]
+    [ true ↦ omega arith | false ↦ omega (arith, cut_end p (at + 1) rest) ]
 
 -- the place of a cut, if something comes after it
 abbrev place_of_cut : ℕ → List ℕ → List ℕ → Option ℕ
@@ -87,7 +87,7 @@ same_quoted at front (b ∷ rest) = (refl, omega (arith, length-append front (34
 same_sign : (at first second : ℕ) (two one : Token) (other : Option Piece) (rest : List ℕ)
     → SamePiece at (sign_of_two_or_one at (begins second rest) two one)
     (option_or (cond (begins_with (second ∷ []) rest) (Some (sign_piece (first ∷ second ∷ []) two)) (Some (sign_piece (first ∷ []) one)))
-        other)
+    other)
 same_sign at first second two one other [] = (refl, refl, omega arith)
 same_sign at first second two one other (c ∷ rest) =
     elim (eqb_tells c second) [ inl is ↦ rw is.0 (refl, refl, omega arith) | inr other ↦ rw other.0 (refl, refl, omega arith) ]
@@ -95,7 +95,7 @@ same_sign at first second two one other (c ∷ rest) =
 -- a sign that has two bytes
 same_pair : (at first second : ℕ) (two : Token) (rest : List ℕ)
     → SamePiece at (sign_of_two at (begins second rest) two)
-        (option_or (cond (begins_with (second ∷ []) rest) (Some (sign_piece (first ∷ second ∷ []) two)) None) None)
+    (option_or (cond (begins_with (second ∷ []) rest) (Some (sign_piece (first ∷ second ∷ []) two)) None) None)
 same_pair at first second two [] = tt
 same_pair at first second two (c ∷ rest) = elim (eqb_tells c second)
     [ inl is ↦ rw is.0 (refl, refl, omega arith) | inr other ↦ rw other.0 tt ]
@@ -114,12 +114,12 @@ same_bare at b word end is = (
 same_call : (at b : ℕ) (word blanks : List ℕ) (left : ℕ) (call : Call) (argument : Option (List ℕ))
     → left ≡ at + 1 + length word + length blanks
     → SamePiece at (call_token call (left + 1) (option_map (λ a. left + 1 + length a) argument))
-        (option_map (call_piece call (b ∷ word) blanks) argument)
+    (option_map (call_piece call (b ∷ word) blanks) argument)
 same_call at b word blanks left call None is = tt
 same_call at b word blanks left call (Some a) is =
     let front = word ++ blanks ++ 40 ∷ [] in
     let before : length front ≡ length word + length blanks + 1 =
-        omega (arith, length-append (word ++ blanks) (40 ∷ []), length-append word blanks) in
+    omega (arith, length-append (word ++ blanks) (40 ∷ []), length-append word blanks) in
     let start : at + suc (length front) ≡ left + 1 = omega (arith, before, is) in (
       ap (λ s. t.Call call (record { start = s; end = s + length a }) ∷ []) start,
       omega (arith, before, is, length-append (front ++ a) (41 ∷ []), length-append front a),
@@ -130,7 +130,7 @@ same_called : (at b : ℕ) (word blanks behind : List ℕ) (end left : ℕ) (cal
     → left ≡ at + 1 + length word + length blanks
     → SamePiece at
     (cond (begins 40 behind) (call_token call (left + 1) (closing_place (left + 1) 0 (drop 1 behind)))
-        (Some (t.Side (Bare (record { start = at; end = end })), end)))
+    (Some (t.Side (Bare (record { start = at; end = end })), end)))
     (call_or_word call (b ∷ word) blanks behind)
 same_called at b word blanks [] end left call end_is left_is = same_bare at b word end end_is
 same_called at b word blanks (c ∷ rest) end left call end_is left_is =
@@ -154,20 +154,20 @@ same_word at b word behind rest end (Some call) whole end_is =
     whole ∙ ap (λ l. word ++ l) (sym (cut_whole (λ c. not (is_blank c)) behind)) ∙ sym (append_assoc word blanks after) in
     let front : left - (at + 1) ≡ length (word ++ blanks) = omega (arith, left_is, length-append word blanks) in
     let there : drop (left - (at + 1)) rest ≡ after = ap (λ n. drop n rest) front ∙ ap (drop (length (word ++ blanks))) parts
-        ∙ drop-append_seam (word ++ blanks) after in
+    ∙ drop-append_seam (word ++ blanks) after in
     let more : left + 1 - (at + 1) ≡ left - (at + 1) + 1 = omega (arith, left_is) in
     let beyond : drop (left + 1 - (at + 1)) rest ≡ drop 1 after = ap (λ n. drop n rest) more
-        ∙ sym (drop-drop 1 (left - (at + 1)) rest) ∙ ap (drop 1) there in
+    ∙ sym (drop-drop 1 (left - (at + 1)) rest) ∙ ap (drop 1) there in
     let bare = Some (t.Side (Bare (record { start = at; end = end })), end) in
     subst (λ l. SamePiece at (cond (begins 40 l) (call_token call (left + 1) (closing_place (left + 1) 0 (drop (left + 1 - (at + 1)) rest)))
-        bare) (call_or_word call (b ∷ word) blanks after)) (sym there)
+    bare) (call_or_word call (b ∷ word) blanks after)) (sym there)
     (subst (λ l. SamePiece at (cond (begins 40 after) (call_token call (left + 1) (closing_place (left + 1) 0 l)) bare)
-        (call_or_word call (b ∷ word) blanks after)) (sym beyond)
+    (call_or_word call (b ∷ word) blanks after)) (sym beyond)
     (same_called at b word blanks after end left call end_is left_is))
 
 same_word_at : (at b : ℕ) (rest : List ℕ)
     → SamePiece at (word_at at b rest) (word_or_call (b ∷ (cut_before is_stop rest).0) (cut_before is_stop rest).1
-        (call_of (b ∷ (cut_before is_stop rest).0)))
+    (call_of (b ∷ (cut_before is_stop rest).0)))
 same_word_at at b rest =
     let word = (cut_before is_stop rest).0 in
     let behind = (cut_before is_stop rest).1 in
@@ -176,9 +176,9 @@ same_word_at at b rest =
     let end_is : end ≡ at + 1 + length word = cut_end is_stop (at + 1) rest in
     let size : end - (at + 1) ≡ length word = omega (arith, end_is) in
     let taken : take (end - (at + 1)) rest ≡ word = ap (λ n. take n rest) size ∙ ap (take (length word)) whole
-        ∙ take-append_seam word behind in
+    ∙ take-append_seam word behind in
     let dropped : drop (end - (at + 1)) rest ≡ behind = ap (λ n. drop n rest) size ∙ ap (drop (length word)) whole
-        ∙ drop-append_seam word behind in
+    ∙ drop-append_seam word behind in
     let piece = word_or_call (b ∷ word) behind (call_of (b ∷ word)) in
     subst (λ l. SamePiece at (word_token at rest end (blanks_end end (drop (end - (at + 1)) rest)) (call_of (b ∷ l))) piece) (sym taken)
     (subst (λ l. SamePiece at (word_token at rest end (blanks_end end l) (call_of (b ∷ word))) piece) (sym dropped)
@@ -210,7 +210,7 @@ same-token at b rest blank =
                     | inr no124 ↦ elim (eqb_tells b 34) [
                       | inl is ↦ subst (SameAt at rest) (sym is.1)
                           (subst (λ o. SamePiece at (quoted_side (at + 1) o)
-                              (quoted_up_to (cut_before (λ c. c == 34) rest).0 (cut_before (λ c. c == 34) rest).1))
+                          (quoted_up_to (cut_before (λ c. c == 34) rest).0 (cut_before (λ c. c == 34) rest).1))
                           (sym (cut_place (λ c. c == 34) (at + 1) rest))
                           (same_quoted at (cut_before (λ c. c == 34) rest).0 (cut_before (λ c. c == 34) rest).1))
                       | inr no34 ↦ rw (blank, no40.0, no41.0, no33.0, no60.0, no62.0, no61.0, no38.0, no124.0, no34.0)
@@ -238,7 +238,7 @@ put_blank at b (Some pieces) = refl
 
 put_token : (at : ℕ) (token : Token) (piece : Piece) (pieces : Option (List Piece)) → piece.tokens (place_inside at piece) ≡ token ∷ []
     → option_map (λ l. token ∷ l) (option_map (tokens_at (at + length (spelling piece))) pieces) ≡ option_map (tokens_at at)
-        (option_map (λ l. piece ∷ l) pieces)
+    (option_map (λ l. piece ∷ l) pieces)
 unfolding tokens_at
 put_token at token piece None is = refl
 put_token at token piece (Some pieces) is = ap (λ l. Some (l ++ tokens_at (at + length (spelling piece)) pieces)) (sym is)
@@ -268,7 +268,7 @@ walk_on bound at b rest (Some found) (Some piece) same low each =
     let low' : length (drop size (b ∷ rest)) < bound = omega (arith, length-drop size (b ∷ rest), low, same.2) in
     ap (option_map (λ tokens. found.0 ∷ tokens))
     (walk_passes (at + 1) passed rest ∙ ap (λ n. walk n 0 (drop passed rest)) there ∙ ap (walk (at + size) 0) left
-        ∙ each (at + size) (drop size (b ∷ rest)) low')
+    ∙ each (at + size) (drop size (b ∷ rest)) low')
     ∙ put_token at found.0 piece (pieces_by bound (drop size (b ∷ rest))) same.0
 
 walk-pieces : (bound at : ℕ) (text : List ℕ) → length text < bound → WalksPieces bound at text
@@ -279,7 +279,7 @@ walk-pieces (suc bound) at (b ∷ rest) low =
     let more : Piece → Option (List Piece) = λ p. pieces_by bound (drop (length (spelling p)) (b ∷ rest)) in
     let pieces = option_map (tokens_at at) (piece_before more (first_piece (b ∷ rest))) in
     let walked : Bool → Option (List Token) = λ v. cond v (walk (at + 1) 0 rest) (token_before (λ end. walk (at + 1) (end - (at + 1)) rest)
-        (token_at at b rest)) in
+    (token_at at b rest)) in
     let cases : (v : Bool) → is_blank b ≡ v → walked v ≡ pieces =
     λ v. elim v as (λ v. is_blank b ≡ v → walked v ≡ pieces) [
       | true ↦ λ is.

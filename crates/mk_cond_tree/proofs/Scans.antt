@@ -42,10 +42,10 @@ placed_here : (bytes : List ℕ) (at end left : ℕ) (call : Option Call) → at
 placed_here bytes at end left None low = refl
 placed_here bytes at end left (Some call) low =
     ap (λ l. cond (begins 40 l) (call_token call (left + 1) (closing_place (left + 1) 0 (drop (left + 1 - (at + 1)) (drop (at + 1) bytes))))
-        (Some (t.Side (Bare (record { start = at; end = end })), end)))
+    (Some (t.Side (Bare (record { start = at; end = end })), end)))
     (dropped bytes (at + 1) left low)
     ∙ ap (λ l. cond (begins 40 (drop left bytes)) (call_token call (left + 1) (closing_place (left + 1) 0 l))
-        (Some (t.Side (Bare (record { start = at; end = end })), end)))
+    (Some (t.Side (Bare (record { start = at; end = end })), end)))
     (dropped bytes (at + 1) (left + 1) (omega arith))
 
 taken : (bytes : List ℕ) (at end : ℕ) → at < length bytes → at + 1 ≤ end → get_or bytes at 0 ∷ take (end - (at + 1)) (drop (at + 1) bytes) ≡
@@ -65,15 +65,15 @@ word-is bytes at end left call room end_is left_is call_is =
     sym (placed_here bytes at end left call (omega arith))
     ∙ ap (λ l. word_token at rest end l call) (left_is ∙ ap (blanks_end end) (sym (dropped bytes (at + 1) end low)))
     ∙ ap (λ o. word_token at rest end (blanks_end end (drop (end - (at + 1)) rest)) o)
-        (call_is ∙ ap call_of (sym (taken bytes at end room low)))
+    (call_is ∙ ap call_of (sym (taken bytes at end room low)))
     ∙ ap (λ e. word_token at rest e (blanks_end e (drop (e - (at + 1)) rest)) (call_of (get_or bytes at 0 ∷ take (e - (at + 1)) rest)))
-        end_is
+    end_is
 
 pub placed-bare : (bytes : List ℕ) (at end left : ℕ) (call : Call) → false ≡ begins 40 (drop left bytes)
     → Some (t.Side (Bare (record { start = at; end = end })), end) ≡ placed bytes at end left (Some call)
 placed-bare bytes at end left call is =
     ap (λ v. cond v (call_token call (left + 1) (closing_place (left + 1) 0 (drop (left + 1) bytes)))
-        (Some (t.Side (Bare (record { start = at; end = end })), end))) is
+    (Some (t.Side (Bare (record { start = at; end = end })), end))) is
 
 pub placed-call : (bytes : List ℕ) (at end left : ℕ) (call : Call) (close : Option ℕ) → true ≡ begins 40 (drop left bytes)
     → close ≡ closing_place (left + 1) 0 (drop (left + 1) bytes)
@@ -81,7 +81,7 @@ pub placed-call : (bytes : List ℕ) (at end left : ℕ) (call : Call) (close : 
 placed-call bytes at end left call close is close_is =
     ap (call_token call (left + 1)) close_is
     ∙ ap (λ v. cond v (call_token call (left + 1) (closing_place (left + 1) 0 (drop (left + 1) bytes)))
-        (Some (t.Side (Bare (record { start = at; end = end })), end))) is
+    (Some (t.Side (Bare (record { start = at; end = end })), end))) is
 
 -- steps of the walk
 pub walk_passes : (at skipped : ℕ) (text : List ℕ) → walk at skipped text ≡ walk (at + skipped) 0 (drop skipped text)
@@ -93,18 +93,18 @@ walk_passes at (suc skipped) (b ∷ rest) = walk_passes (at + 1) skipped rest �
 
 walk_cons : (at b : ℕ) (rest : List ℕ)
     → walk at 0 (b ∷ rest) ≡ cond (is_blank b) (walk (at + 1) 0 rest)
-        (token_before (λ end. walk (at + 1) (end - (at + 1)) rest) (token_at at b rest))
+    (token_before (λ end. walk (at + 1) (end - (at + 1)) rest) (token_at at b rest))
 unfolding walk
 walk_cons at b rest = refl
 
 walk_here : (bytes : List ℕ) (at : ℕ) (blank : Bool) → at < length bytes → blank ≡ is_blank (get_or bytes at 0)
     → walk at 0 (drop at bytes)
     ≡ cond blank (walk (at + 1) 0 (drop (at + 1) bytes)) (token_before (λ end. walk (at + 1) (end - (at + 1)) (drop (at + 1) bytes))
-        (token_at at (get_or bytes at 0) (drop (at + 1) bytes)))
+    (token_at at (get_or bytes at 0) (drop (at + 1) bytes)))
 walk_here bytes at blank room is =
     ap (walk at 0) (drop-next bytes at room) ∙ walk_cons at (get_or bytes at 0) (drop (at + 1) bytes)
     ∙ ap (λ v. cond v (walk (at + 1) 0 (drop (at + 1) bytes)) (token_before (λ end. walk (at + 1) (end - (at + 1)) (drop (at + 1) bytes))
-        (token_at at (get_or bytes at 0) (drop (at + 1) bytes)))) (sym is)
+    (token_at at (get_or bytes at 0) (drop (at + 1) bytes)))) (sym is)
 
 pub walk-blank : (bytes : List ℕ) (at : ℕ) → at < length bytes → true ≡ is_blank (get_or bytes at 0) → walk (at + 1) 0 (drop (at + 1) bytes)
     ≡ walk at 0 (drop at bytes)
@@ -134,6 +134,6 @@ walk-done bytes at room = ap (walk at 0) (drop-past bytes at room) ∙ walk_nil 
 
 pub token-added : (found : List Token) (token : Token) (later : Option (List Token))
     → option_map (λ tokens. (found ++ token ∷ []) ++ tokens) later ≡ option_map (λ tokens. found ++ tokens)
-        (option_map (λ tokens. token ∷ tokens) later)
+    (option_map (λ tokens. token ∷ tokens) later)
 token-added found token None = refl
 token-added found token (Some tokens) = ap Some (append_assoc found (token ∷ []) tokens)

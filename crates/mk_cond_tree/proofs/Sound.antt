@@ -91,7 +91,7 @@ module _ {A : Type 0} (token : Token) (sign : List Token → Option (List Token)
       → (tokens : List Token) (behind : Option (List Token))
       → IfSome behind (λ rest. tokens ≡ token ∷ rest)
       → IfSome (operands_after (λ rest. operand_on more (read rest)) tokens behind)
-          (Takes (joined token written) (deepest deep) limit tokens)
+      (Takes (joined token written) (deepest deep) limit tokens)
   signed_sound more more_sound tokens None is = record { whole = refl; not_deep = omega arith }
   signed_sound more more_sound tokens (Some behind) is = operand_sound more more_sound tokens behind is (read behind) (sound behind)
 
@@ -145,13 +145,13 @@ pub and-sound : (limit : ℕ) (read : Reader NotTree) → IsSound not_tokens not
     → IsSound and_tokens and_depth limit (and_by read)
 and-sound limit read sound tokens =
     chain-sound t.And after_and and-sign not_tokens not_depth limit read sound (λ first more. AndOf first (later_nots more)) and_tokens
-        and_depth
+    and_depth
     (λ x more. ap (λ l. not_tokens x ++ l) (nots_written more)) (λ x more. ap (max (not_depth x)) (nots_deep more)) tokens
 
 pub or-sound : (limit : ℕ) (read : Reader NotTree) → IsSound not_tokens not_depth limit read → IsSound or_tokens or_depth limit (or_by read)
 or-sound limit read sound tokens =
     chain-sound t.Or after_or or-sign and_tokens and_depth limit (and_by read) (and-sound limit read sound)
-        (λ first more. OrOf first (later_ands more)) or_tokens or_depth
+    (λ first more. OrOf first (later_ands more)) or_tokens or_depth
     (λ x more. ap (λ l. and_tokens x ++ l) (ands_written more)) (λ x more. ap (max (and_depth x)) (ands_deep more)) tokens
 
 sided_sound : (limit : ℕ) (left : Side) (rest : List Token)

@@ -32,7 +32,7 @@ pub text_meaning-pieces : (references : References) (text : List ℕ) (found : L
 unfolding text_meaning
 text_meaning-pieces references text found m whole is =
     ap (λ left. where_whole references left (pieces_of (atoms_of text)) m) whole
-        ∙ ap (λ pieces. each (join_piece references) [] pieces m) (sym is)
+    ∙ ap (λ pieces. each (join_piece references) [] pieces m) (sym is)
 
 left-over : (references : References) (left : List ℕ) (pieces : List TextPiece) (m : Meter) → left ≢ [] → where_whole references left pieces
     m ≡ Err (kinds.Reference, m)
@@ -78,18 +78,18 @@ unfolding each
 join-bytes references old text [] m small = sym (ap (λ l. bounded l m) (append-nil text) ∙ bounded-small text m small)
 join-bytes references old text (b ∷ bytes) m small =
     join-byte references old text b bytes m (λ more fits. join-bytes references old more bytes m fits)
-        (cases_lt TEXT_LIMIT (length (text ++ b ∷ [])))
+    (cases_lt TEXT_LIMIT (length (text ++ b ∷ [])))
 
 first-name : (undefined_gives : Undefined) (levels : ℕ) (variables : Variables) (active : List (List ℕ)) (written name : List ℕ)
     (modifiers : Option (List ℕ))
     (m m' : Meter) (unit : Unit {0}) → pay m ≡ Ok (unit, m')
     → reference undefined_gives (suc levels) variables active written name modifiers m
     ≡ after (text_meaning (reference kept.Empty levels variables active) name m')
-        (by_name undefined_gives (reference kept.Empty levels variables) variables active written modifiers)
+    (by_name undefined_gives (reference kept.Empty levels variables) variables active written modifiers)
 unfolding reference
 first-name undefined_gives levels variables active written name modifiers m m' unit paid =
     ap (λ end. after end (λ _ m''. after (text_meaning (reference kept.Empty levels variables active) name m'')
-        (by_name undefined_gives (reference kept.Empty levels variables) variables active written modifiers))) paid
+    (by_name undefined_gives (reference kept.Empty levels variables) variables active written modifiers))) paid
 
 -- a reference that is paid for means what follows the meaning of its name
 pub reference-name : (undefined_gives : Undefined) (levels : ℕ) (variables : Variables) (active : List (List ℕ)) (written name : List ℕ)
@@ -97,7 +97,7 @@ pub reference-name : (undefined_gives : Undefined) (levels : ℕ) (variables : V
     (m m' : Meter) (unit : Unit {0}) → levels ≢ 0 → enter_reference levels m ≡ Ok (unit, m')
     → reference undefined_gives levels variables active written name modifiers m
     ≡ after (text_meaning (reference kept.Empty (levels - 1) variables active) name m')
-        (by_name undefined_gives (reference kept.Empty (levels - 1) variables) variables active written modifiers)
+    (by_name undefined_gives (reference kept.Empty (levels - 1) variables) variables active written modifiers)
 unfolding enter_reference
 reference-name undefined_gives zero variables active written name modifiers m m' unit some paid = absurd (some refl)
 reference-name undefined_gives (suc levels) variables active written name modifiers m m' unit some paid =
@@ -122,12 +122,12 @@ too-deep (Err stop) = refl
 pub reference-unbegun : (undefined_gives : Undefined) (levels : ℕ) (variables : Variables) (active : List (List ℕ)) (written name : List ℕ)
     (modifiers : Option (List ℕ))
     (m : Meter) (stop : FaultKind × Meter) → enter_reference levels m ≡ Err stop → reference undefined_gives levels variables active written
-        name modifiers m ≡ Err stop
+    name modifiers m ≡ Err stop
 unfolding enter_reference reference
 reference-unbegun undefined_gives zero variables active written name modifiers m stop stops = too-deep (pay m) ∙ ap with-text stops
 reference-unbegun undefined_gives (suc levels) variables active written name modifiers m stop stops =
     ap (λ end. after end (λ _ m'. after (text_meaning (reference kept.Empty levels variables active) name m')
-        (by_name undefined_gives (reference kept.Empty levels variables) variables active written modifiers))) stops
+    (by_name undefined_gives (reference kept.Empty levels variables) variables active written modifiers))) stops
 
 stops-long : (text : List ℕ) (m : Meter) (stop : PureStop FaultKind) (outcome : Result (List ℕ × Meter) (FaultKind × Meter))
     → IsTooLong text stop → outcome ≡ bounded text m → StopsPurelyAt stop m outcome
@@ -164,7 +164,7 @@ plain-joined : (references : References) (text : List ℕ) (m : Meter)
 plain-joined references [] m = each-nothing (join_piece references) [] m ∙ sym (bounded-small [] m (omega arith))
 plain-joined references (b ∷ rest) m =
     ap (λ pieces. each (join_piece references) [] pieces m) (plain-pieces b rest) ∙ each-one (join_piece references) []
-        (LiteralPiece (b ∷ rest)) m
+    (LiteralPiece (b ∷ rest)) m
 
 -- a text without a dollar means itself
 pub text_meaning-plain : (references : References) (text : List ℕ) (m : Meter) → list_any (λ b. b == 36) text ≡ false

@@ -25,14 +25,14 @@ other-atoms : (atoms : List TextAtom) → prefix_len is_other (flat_map covered 
 other-atoms [] = refl
 other-atoms (Byte b ∷ atoms) =
     elim (b == 58) as (λ (t : Bool). cond (not t) (1 + prefix_len is_other (flat_map covered atoms)) 0 ≡ length
-        (sources (if t then [] else (Byte b ∷ before_colon atoms)))) [
+    (sources (if t then [] else (Byte b ∷ before_colon atoms)))) [
       | true ↦ refl
       | false ↦ let rest = other-atoms atoms in omega (arith, rest)
     ]
 other-atoms (EscapedDollar ∷ atoms) = let rest = other-atoms atoms in omega (arith, rest)
 other-atoms (Reference written name modifiers ∷ atoms) =
     other-dollars written (flat_map covered atoms) ∙ ap (λ n. length written + n) (other-atoms atoms)
-        ∙ sym (length-append written (sources (before_colon atoms)))
+    ∙ sym (length-append written (sources (before_colon atoms)))
 
 whole-text : (text : List ℕ) → left_of text ≡ [] → sources (atoms_of text) ≡ text
 whole-text text whole = sym (append-nil (sources (atoms_of text))) ∙ ap (λ l. sources (atoms_of text) ++ l) (sym whole) ∙ atoms-text text
@@ -45,7 +45,7 @@ other-text : (text : List ℕ) → left_of text ≡ [] → prefix_len is_other (
 unfolding outside
 other-text text whole =
     ap (λ l. prefix_len is_other (flat_map covered (atoms_of text) ++ dollars l)) whole
-        ∙ ap (prefix_len is_other) (append-nil (flat_map covered (atoms_of text))) ∙ other-atoms (atoms_of text)
+    ∙ ap (prefix_len is_other) (append-nil (flat_map covered (atoms_of text))) ∙ other-atoms (atoms_of text)
 
 -- a text put together of a name and modifiers is cut at its colon into these again
 pub record IsCutAt (name : List ℕ) (modifiers : Option (List ℕ)) (text : List ℕ) : Type 0 where
@@ -106,4 +106,4 @@ no-colon text whole is =
     let name = sources (before_colon (atoms_of text)) in
     let none = no-place (outside text) is in
     alone name (option_map sources (following_colon (atoms_of text))) text (around-text text whole)
-        (omega (arith, none, other-text text whole, length-outside text))
+    (omega (arith, none, other-text text whole, length-outside text))

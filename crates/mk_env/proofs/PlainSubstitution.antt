@@ -35,15 +35,21 @@ module _ (references : References) (old : List ℕ) where
 
   joined-on : (text more : List ℕ) (symbols : List Symbol) (m : Meter)
       → ((next : List ℕ) → length next ≤ TEXT_LIMIT → each (join_symbol references old) next symbols m ≡ bounded
-          (next ++ text_of old symbols) m)
+      (next ++ text_of old symbols) m)
       → (TEXT_LIMIT < length (text ++ more)) ⊎ (length (text ++ more) ≤ TEXT_LIMIT)
       → after (bounded (text ++ more) m) (λ next. each (join_symbol references old) next symbols) ≡ bounded
-          (text ++ (more ++ text_of old symbols)) m
+      (text ++ (more ++ text_of old symbols)) m
   joined-on text more symbols m goes (inl long) =
       ap (λ end. after end (λ next. each (join_symbol references old) next symbols)) (bounded-long (text ++ more) m long)
       ∙ sym (bounded-long (text ++ (more ++ text_of old symbols)) m
-      (omega (arith, long, length-append text more, length-append text (more ++ text_of old symbols), length-append more
-          (text_of old symbols))))
+      (omega (
+        arith,
+        long,
+        length-append text more,
+        length-append text (more ++ text_of old symbols),
+        length-append more
+            (text_of old symbols),
+      )))
   joined-on text more symbols m goes (inr small) =
       ap (λ end. after end (λ next. each (join_symbol references old) next symbols)) (bounded-small (text ++ more) m small)
       ∙ goes (text ++ more) small ∙ ap (λ l. bounded l m) (append_assoc text more (text_of old symbols))
@@ -56,7 +62,7 @@ module _ (references : References) (old : List ℕ) where
   plain-each text (symbol ∷ symbols) m plain small =
       ap (λ end. after end (λ next. each (join_symbol references old) next symbols)) (plain-joined text symbol m plain.0)
       ∙ joined-on text (symbol_text old symbol) symbols m (λ next fits. plain-each next symbols m plain.1 fits)
-          (cases_lt TEXT_LIMIT (length (text ++ symbol_text old symbol)))
+      (cases_lt TEXT_LIMIT (length (text ++ symbol_text old symbol)))
 
   plain-symbols : (symbols : List Symbol) (m : Meter) → AllPlain symbols → symbols_meaning references old symbols m ≡ made
       (within_limit (text_of old symbols)) m
@@ -67,7 +73,7 @@ module _ (references : References) (s : Replacement) (words : List (List ℕ)) (
   with-old : (old : List ℕ) → AllPlain s.new
       → after (symbols_meaning references old s.new m) (λ new. made (within_limit (joined (substituted s old new words))))
       ≡ made (option_and_then (λ made_words. within_limit (joined made_words))
-          (option_map (λ new. substituted s old new words) (within_limit (text_of old s.new)))) m
+      (option_map (λ new. substituted s old new words) (within_limit (text_of old s.new)))) m
   with-old old plain =
       ap (λ end. after end (λ new. made (within_limit (joined (substituted s old new words))))) (plain-symbols references old s.new m plain)
       ∙ by (within_limit (text_of old s.new))
@@ -79,11 +85,11 @@ module _ (references : References) (s : Replacement) (words : List (List ℕ)) (
 
   with-both : AllPlain s.old → AllPlain s.new
       → after (symbols_meaning references [] s.old m) (λ old m'. after (symbols_meaning references old s.new m')
-          (λ new. made (within_limit (joined (substituted s old new words)))))
+      (λ new. made (within_limit (joined (substituted s old new words)))))
       ≡ made (option_and_then (λ made_words. within_limit (joined made_words)) (words_substituted s words)) m
   with-both plain_old plain_new =
       ap (λ end. after end (λ old m'. after (symbols_meaning references old s.new m')
-          (λ new. made (within_limit (joined (substituted s old new words))))))
+      (λ new. made (within_limit (joined (substituted s old new words))))))
       (plain-symbols references [] s.old m plain_old)
       ∙ by (within_limit (text_of [] s.old))
     where

@@ -27,7 +27,7 @@ get-texts_of [] q = finite.get-empty (slice_cmp nat_cmp) q
 get-texts_of (e ∷ es) q =
     finite.get-insert nat_list_cmp_total (texts_of es) (string_bytes e.0) (string_bytes e.1) q ∙
     elim (is_eq (slice_cmp nat_cmp q (string_bytes e.0))) as (λ b. cond b (Some (string_bytes e.1)) (finite.get (texts_of es) q) ≡
-        option_map string_bytes (cond b (Some e.1) (lookup (λ key. is_eq (slice_cmp nat_cmp q (string_bytes key))) es))) [
+    option_map string_bytes (cond b (Some e.1) (lookup (λ key. is_eq (slice_cmp nat_cmp q (string_bytes key))) es))) [
       | true ↦ refl
       | false ↦ get-texts_of es q
     ]
@@ -41,7 +41,7 @@ option_map-cond false x o = refl
 get-changed : (old new : tree.BTreeMap (String Global) (String Global)) (name : List ℕ) (text : Option (String Global))
     → tree.UpdatesBy string_cmp (λ key. slice_cmp nat_cmp name (string_bytes key)) old new text
     → (q : List ℕ) → finite.get (texts_of new.entries) q ≡ cond (is_eq (slice_cmp nat_cmp q name)) (option_map string_bytes text)
-        (finite.get (texts_of old.entries) q)
+    (finite.get (texts_of old.entries) q)
 get-changed old new name text updates q =
     get-texts_of new.entries q ∙
     ap (option_map string_bytes) (btree_map_updates_text name old new text updates q) ∙
@@ -55,7 +55,7 @@ pub texts_of-put : (old new : tree.BTreeMap (String Global) (String Global)) (na
     → texts_of new.entries ≡ finite.insert (texts_of old.entries) name (string_bytes text)
 texts_of-put old new name text updates =
     same_map _ _ (λ q. get-changed old new name (Some text) updates q
-        ∙ sym (finite.get-insert nat_list_cmp_total (texts_of old.entries) name (string_bytes text) q))
+    ∙ sym (finite.get-insert nat_list_cmp_total (texts_of old.entries) name (string_bytes text) q))
 
 -- the same where the name is a text
 pub texts_of-insert : (old new : tree.BTreeMap (String Global) (String Global)) (name text : String Global)
@@ -69,7 +69,7 @@ pub texts_of_removed : (old new : tree.BTreeMap (String Global) (String Global))
     → texts_of new.entries ≡ finite.remove view name
 texts_of_removed old new view name is updates =
     same_map _ _ (λ q. get-changed old new name None updates q ∙ sym (finite.get-remove nat_list_cmp_total (texts_of old.entries) name q))
-        ∙ ap (λ held. finite.remove held name) is
+    ∙ ap (λ held. finite.remove held name) is
 
 -- to give a name the text that it has changes nothing
 pub insert-held : (m : TextMap) (name text : List ℕ) → finite.get m name ≡ Some text → finite.insert m name text ≡ m
@@ -77,7 +77,7 @@ insert-held m name text held =
     same_map _ _ (λ q.
     finite.get-insert nat_list_cmp_total m name text q ∙
     elim (slice_cmp nat_cmp q name) as (λ order. slice_cmp nat_cmp q name ≡ order
-        → cond (is_eq order) (Some text) (finite.get m q) ≡ finite.get m q) [
+    → cond (is_eq order) (Some text) (finite.get m q) ≡ finite.get m q) [
       | Less ↦ λ is. refl
       | Equal ↦ λ is. sym held ∙ finite.get_tied nat_list_cmp_total m q name is
       | Greater ↦ λ is. refl

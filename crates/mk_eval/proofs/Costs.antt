@@ -41,7 +41,7 @@ module _ (variables : Variables) (makefile name : List ℕ) where
   by-there : (there : Bool) → value_units (if there then valued (tell (at makefile 0) work) else Ok None) ≤ UNITS
   by-there true =
       subst (λ (cost : ℕ). cost ≤ UNITS) (sym (valued-costs makefile work))
-          ((steady-variable variables name).within (full UNITS) (omega arith))
+      ((steady-variable variables name).within (full UNITS) (omega arith))
   by-there false = omega arith
 
 values-few : (variables : Variables) (makefile name : List ℕ) → value_units (value_of_variable variables makefile name) ≤ UNITS

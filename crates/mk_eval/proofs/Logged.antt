@@ -80,8 +80,11 @@ module _ (files other : FileMap) (settings : Settings) (name : List ℕ) (flavor
     questions-alike = ap (λ known. questions_asked (other, settings) name flavors (cost_of known)) means-alike ∙ asked-alike
 
 pub same-where-answered : IsTheSameWhereAnswered
-same-where-answered files other settings name flavors agrees = (means-alike files other settings name flavors agrees, questions-alike files
-    other settings name flavors agrees)
+same-where-answered files other settings name flavors agrees = (
+  means-alike files other settings name flavors agrees,
+  questions-alike files
+      other settings name flavors agrees,
+)
 
 -- what is known of the log, and that nothing but questions were asked, says what is left of the files
 pub noted-by : (old new : FilesView) (questions : List Question) → AfterQuestions old new → new.log ≡ with_questions old.log questions

@@ -30,10 +30,10 @@ module _ (place : Place) (trees : List (String Global)) (file : List ℕ) (state
   pub first-more : (index : ℕ) (tree : String Global) → index < length trees → tree ≡ get_or trees index tree
       → from_tree place trees file index state a
       ≡ after (open_if_there place state (resolved (name_under (string_bytes tree) file)) a)
-          (opened_or (open_first place (names_in_trees (map string_bytes (drop (index + 1) trees)) (Some file))))
+      (opened_or (open_first place (names_in_trees (map string_bytes (drop (index + 1) trees)) (Some file))))
   first-more index tree within is =
       ap (λ left. open_first place (names_in_trees (map string_bytes left) (Some file)) state a) (drop_more trees index tree within
-          ∙ ap (λ one. one ∷ drop (index + 1) trees) (sym is))
+      ∙ ap (λ one. one ∷ drop (index + 1) trees) (sym is))
 
 none-found : (found : Option Included) → is_some found ≡ false → found ≡ None
 none-found None is = refl
@@ -46,19 +46,19 @@ module _ (here : ExecutedFile) (trees : List (String Global)) (file : List ℕ) 
       → (tree : String Global) → index < length trees → tree ≡ get_or trees index tree → (directory : List ℕ)
       → directory ≡ string_bytes tree → (found : Option Included) → is_some found ≡ false
       → ((state : EvalState) → open_if_there (place_of_file here view.files) state (resolved (name_under directory file)) (account m view) ≡
-          Ok ((state, option_map included_file found), account m' new))
+      Ok ((state, option_map included_file found), account m' new))
       → FirstFrom (place_of_file here first.files) trees file start first (index + 1) m' new
   first-on before asked tree within is directory named found none gives = record {
     same = λ state.
         let next = opened_or (open_first (place_of_file here first.files)
-            (names_in_trees (map string_bytes (drop (index + 1) trees)) (Some file))) in
+        (names_in_trees (map string_bytes (drop (index + 1) trees)) (Some file))) in
         before.same state
         ∙ first-more (place_of_file here first.files) trees file state (account m view) index tree within is
         ∙ ap (λ directory. after (open_if_there (place_of_file here first.files) state (resolved (name_under directory file))
-            (account m view)) next) (sym named)
+        (account m view)) next) (sym named)
         ∙ ap (λ files. after (open_if_there (place_of_file here files) state (resolved (name_under directory file)) (account m view)) next)
-            (sym (AfterQuestions-files first view asked))
+        (sym (AfterQuestions-files first view asked))
         ∙ ap (λ r. after r next) (gives state)
         ∙ ap (λ found. after (let r : Result (Opened × Account) (FaultKind × Account) =
-            Ok ((state, option_map included_file found), account m' new) in r) next) (none-found found none);
+        Ok ((state, option_map included_file found), account m' new) in r) next) (none-found found none);
   }

@@ -111,7 +111,7 @@ module _ {A B F : Type 0} (other : FileMap) (work again : Work Account F A) (nex
       let reached = first_within first.ends ends_on first.steady (λ x. (second x).steady) m limit (first.ends m) refl inside in
       ap (λ questions. questions ++ behind (first.ends (under limit m))) (first.same m limit low reached)
       ∙ ap (λ questions. first.asks m ++ questions) (ap behind (first.steady.lower m limit low reached)
-          ∙ asks_same m limit (first.ends m) refl low inside)
+      ∙ asks_same m limit (first.ends m) refl low inside)
 
   follows : (log : Option (List Question)) (r : Result (A × Meter) (F × Meter)) → Agrees other (behind r)
       → after (beside log r) onward ≡ after (beside log r) next
@@ -149,7 +149,7 @@ unfolding each
 shared-each other iteration again shared s [] = shared-give other s
 shared-each other iteration again shared s (x ∷ xs) =
     shared-bind other (iteration s x) (again s x) (λ next. each iteration next xs) (λ next. each again next xs) (shared s x)
-        (λ next. shared-each other iteration again shared next xs)
+    (λ next. shared-each other iteration again shared next xs)
 
 told-beside : {A F G : Type 0} (f : F → G) (log : Option (List Question)) (r : Result (A × Meter) (F × Meter))
     → tell f (beside log r) ≡ beside log (tell f r)

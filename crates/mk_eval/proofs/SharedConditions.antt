@@ -49,7 +49,7 @@ module _ (other : FileMap) (s : Surroundings) where
   shared-called Empty argument = shared-quietly other (steady.bind (steady-inside s.variables argument) (λ value. steady-give _))
   shared-called Exists argument =
       bind (shared-quietly other (steady-expand s.variables argument))
-          (λ file. shared-is_there s.files other (resolved (name_under (directory_of s.makefile) file)))
+      (λ file. shared-is_there s.files other (resolved (name_under (directory_of s.makefile) file)))
   shared-called Make argument = shared-give other false
   shared-called Target argument = shared-give other false
 
@@ -60,7 +60,7 @@ module _ (other : FileMap) (s : Surroundings) where
   shared-bare : (word : List ℕ) → Shared other (bare s word) (bare (among other s) word)
   shared-bare word =
       either (has_reference word) (shared-quietly other (steady.bind (steady-expand s.variables word) (λ found. steady-give _)))
-          (shared-lone word (hex_or_decimal word))
+      (shared-lone word (hex_or_decimal word))
 
   shared-alone : (side : Side) → Shared other (side_alone s side) (side_alone (among other s) side)
   shared-alone (Quoted span) = shared-quietly other (steady.bind (steady-expand s.variables _) (λ found. steady-give _))
@@ -108,4 +108,4 @@ module _ (files other : FileMap) (variables : Variables) (makefile : List ℕ) w
   shared-parts None = shared-fail other kinds.Condition
   shared-parts (Some (form, text)) =
       bind (shared-condition other (record { variables = variables; files = files; makefile = makefile; text = text; word = form.word }))
-          (λ held. shared-give other _)
+      (λ held. shared-give other _)

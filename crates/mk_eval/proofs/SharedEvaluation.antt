@@ -68,15 +68,15 @@ shared-open_port : (other : FileMap) (place : Place) (state : EvalState) → Sha
     (open_port (among other place) state)
 shared-open_port other place state =
     either state.shared_asked (shared-give other _)
-        (shared-open_if_there other place (first_port state)
-        (resolved (name_under (directory_of place.makefile) (codes "../Makefile.inc"))))
+    (shared-open_if_there other place (first_port state)
+    (resolved (name_under (directory_of place.makefile) (codes "../Makefile.inc"))))
 
 module _ (other : FileMap) (place : Place) (state : EvalState) where
   shared-open_own : (optional : Bool) (file : List ℕ) → Shared other (open_own place state optional file)
       (open_own (among other place) state optional file)
   shared-open_own optional file =
       bind (shared-deep_enough other place.levels) (λ _. bind (shared-named other (resolved (name_under (directory_of place.file) file)))
-          (shared-open_named place.files other state optional))
+      (shared-open_named place.files other state optional))
 
   shared-open_form : (optional : Bool) (form : Form) → Shared other (open_form place state optional form)
       (open_form (among other place) state optional form)
@@ -95,7 +95,7 @@ module _ (other : FileMap) (place : Place) (state : EvalState) where
 pub steady-module_words : (variables : Variables) → Steady (module_words variables)
 steady-module_words variables =
     steady.either (is_some (text_in variables (codes "MODULES"))) (steady.bind (steady-variable variables (codes "MODULES"))
-        (λ text. steady-give (words_of text))) (steady-give [])
+    (λ text. steady-give (words_of text))) (steady-give [])
 
 module _ (other : FileMap) (place : Place) where
   shared-opened_or : (others again : EvalState → Work Account FaultKind Opened)
@@ -109,7 +109,7 @@ module _ (other : FileMap) (place : Place) where
   shared-open_first [] state = shared-give other _
   shared-open_first (name ∷ names) state =
       bind (shared-open_if_there other place state (resolved name))
-          (shared-opened_or (open_first place names) (open_first (among other place) names) (shared-open_first names))
+      (shared-opened_or (open_first place names) (open_first (among other place) names) (shared-open_first names))
 
   pub shared-open_module : (state : EvalState) (word : List ℕ) → Shared other (open_module place state word)
       (open_module (among other place) state word)
@@ -135,8 +135,8 @@ module _ {S : Type 0} (other : FileMap) (works again : LineWorks Account FaultAt
         (λ held. either held (shared-block block loops s) (shared-branches branches loops s))
     shared-tree (LoopTree line block) loops s =
         bind (are.iterations loops line s)
-            (λ iterations. over (λ s iteration. bind (are.begins line) (λ _. shared-block block (inside_iteration loops iteration) s)) s
-            iterations)
+        (λ iterations. over (λ s iteration. bind (are.begins line) (λ _. shared-block block (inside_iteration loops iteration) s)) s
+        iterations)
 
     pub shared-block : (block : Block) (loops : Loops) (s : S) → Shared other (execute works block loops s) (execute again block loops s)
     shared-block EmptyBlock loops s = shared-give other s
@@ -153,7 +153,7 @@ shared-judge : (files other : FileMap) (makefile : List ℕ) (variables : Variab
     → Shared other (condition_holds files makefile variables loops line) (condition_holds other makefile variables loops line)
 shared-judge files other makefile variables loops line =
     bind (shared-quietly other (steady-head_text variables loops (line_kind line)))
-        (λ text. shared-parts files other variables makefile (option_map (λ form. (form, text)) (form_in (line_kind line))))
+    (λ text. shared-parts files other variables makefile (option_map (λ form. (form, text)) (form_in (line_kind line))))
 
 module _ (other : FileMap) (entering again : Entering) (enters : EntersShared other entering again) where
   shared-enter : (opened : Opened) → Shared other (enter entering opened) (enter again opened)
@@ -164,7 +164,7 @@ module _ (other : FileMap) (entering again : Entering) (enters : EntersShared ot
       → Shared other (open_line place loops line state) (open_line (among other place) loops line state)
   shared-open_line place loops line state =
       bind (shared-quietly other (steady-perform state.variables loops line.text))
-          (λ done. shared-open_request other place (record state { variables = done.0 }) done.1)
+      (λ done. shared-open_request other place (record state { variables = done.0 }) done.1)
 
   pub shared-include_module : (place : Place) (line : ℕ) (state : EvalState) (word : List ℕ)
       → Shared other (include_module entering place line state word) (include_module again (among other place) line state word)
@@ -175,7 +175,7 @@ module _ (other : FileMap) (entering again : Entering) (enters : EntersShared ot
       (include_modules again (among other place) line state)
   shared-include_modules place line state =
       bind (shared-tell (at place.file line) (shared-quietly other (steady-module_words state.variables)))
-          (over (shared-include_module place line) state)
+      (over (shared-include_module place line) state)
 
   shared-modules_after : (place : Place) (line : ℕ) (asked : Bool) (state : EvalState)
       → Shared other (modules_after entering place line asked state) (modules_after again (among other place) line asked state)

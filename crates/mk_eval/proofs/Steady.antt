@@ -45,7 +45,7 @@ module _ {A B F : Type 0} (work : Work Meter F A) (next : A → Work Meter F B) 
   within_by m (Ok end) is inside =
       let stays : end.1.limit ≡ m.limit = ap (λ (r : Result (A × Meter) (F × Meter)). (left r).limit) (sym is) ∙ first.stays m in
       let before : end.1.spent ≤ m.limit = subst (λ (r : Result (A × Meter) (F × Meter)). (left r).spent ≤ m.limit) is
-          (first.within m inside) in
+      (first.within m inside) in
       let there : end.1.spent ≤ end.1.limit = omega (arith, before, stays) in
       let after' : (left (next end.0 end.1)).spent ≤ end.1.limit = (second end.0).within end.1 there in
       omega (arith, after', stays)
@@ -57,12 +57,12 @@ module _ {A B F : Type 0} (work : Work Meter F A) (next : A → Work Meter F B) 
   lower_by m limit (Ok end) is low inside =
       let stays : end.1.limit ≡ m.limit = ap (λ (r : Result (A × Meter) (F × Meter)). (left r).limit) (sym is) ∙ first.stays m in
       let reached : (left (work m)).spent ≤ limit = subst (λ (r : Result (A × Meter) (F × Meter)). (left r).spent ≤ limit) (sym is)
-          (omega (arith, (second end.0).onward end.1, inside)) in
+      (omega (arith, (second end.0).onward end.1, inside)) in
       ap (λ r. after r next) (first.lower m limit low reached ∙ ap (lowered limit) is)
       ∙ (second end.0).lower end.1 limit (omega (arith, stays, low)) inside
   lower_by m limit (Err end) is low inside =
       let reached : (left (work m)).spent ≤ limit = subst (λ (r : Result (A × Meter) (F × Meter)). (left r).spent ≤ limit) (sym is) inside
-          in
+      in
       ap (λ r. after r next) (first.lower m limit low reached ∙ ap (lowered limit) is)
 
   -- what is spent by the first work alone isn't more than by both
@@ -151,7 +151,7 @@ steady-pay = record {
   within = λ m. pay-within m (nat_lt m.spent m.limit) refl;
   lower = λ m limit low inside.
       ap (λ room. paid room (under limit m)) (still_paid m.spent m.limit limit (nat_lt m.spent m.limit) refl low
-          (pay-room m limit (nat_lt m.spent m.limit) inside))
+      (pay-room m limit (nat_lt m.spent m.limit) inside))
       ∙ paid-lowered m limit (nat_lt m.spent m.limit);
 }
 

@@ -100,7 +100,7 @@ steady-inside variables text = steady-by_inside _ (are-steady _ 32 variables [])
 pub steady-modified_by : (variables : Variables) (modifiers text : List ℕ) → Steady (modified_by variables modifiers text)
 steady-modified_by variables modifiers text =
     bind (steady-readable (modifiers_of (language_of variables) modifiers))
-        (λ actions. over (steady-modified _ (are-steady _ 31 variables [])) text actions)
+    (λ actions. over (steady-modified _ (are-steady _ 31 variables [])) text actions)
 
 pub steady-variable : (variables : Variables) (name : List ℕ) → Steady (variable variables name)
 steady-variable variables name = bind steady-pay (λ _. steady-named _ (are-steady _ 31 variables) variables [] name None)

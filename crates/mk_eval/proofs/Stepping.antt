@@ -26,7 +26,7 @@ tree-branch branch = fold_out-Branch Tree (LogicalLine × Block) node_step branc
 pub file_meaning-is : (files : FileMap) (makefile : List ℕ) (levels : ℕ) (name bytes : List ℕ) (state : EvalState) (a : Account)
     → file_meaning files makefile levels name bytes state a
     ≡ execute_read (entering_at files makefile levels) (record { files = files; makefile = makefile; file = name; levels = levels })
-        (parsed bytes) state a
+    (parsed bytes) state a
 unfolding file_meaning
 file_meaning-is files makefile zero name bytes state a = refl
 file_meaning-is files makefile (suc levels) name bytes state a = refl

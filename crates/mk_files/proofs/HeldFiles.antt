@@ -46,7 +46,7 @@ pub files_of-insert : (old new : tree.BTreeMap (String Global) (List ℕ)) (name
     → files_of new.entries ≡ finite.insert (files_of old.entries) (string_bytes name) content
 files_of-insert old new name content updates =
     same_map _ _ (λ q. answers_after old new (string_bytes name) (Some content)
-        (btree_map_updates_text (string_bytes name) old new (Some content) updates) q
+    (btree_map_updates_text (string_bytes name) old new (Some content) updates) q
     ∙ sym (finite.get-insert nat_list_cmp_total (files_of old.entries) (string_bytes name) content q))
 
 -- the same where one key was taken away

@@ -36,7 +36,7 @@ some_end-one negated ranges items c [] h = elim (or_cases (fits_items (one_of ne
 ]
 some_end-one negated ranges items c (d ∷ word) h =
     elim (or_cases (fits_items (one_of negated ranges ∷ items) (c ∷ d ∷ word))
-        (some_end (fits_items (one_of negated ranges ∷ items)) (d ∷ word)) h) [
+    (some_end (fits_items (one_of negated ranges ∷ items)) (d ∷ word)) h) [
       | inl here ↦ some_end-whole (fits_items items) (d ∷ word) (and_parts (admits negated ranges c) (fits_items items (d ∷ word)) here).1
       | inr later ↦ some_end-later (fits_items items) d word (some_end-one negated ranges items d word later)
     ]
@@ -70,12 +70,12 @@ fits_where_each [] (part ∷ parts) each = absurd each
 fits_where_each (item ∷ items) [] each = absurd each
 fits_where_each (any_run ∷ items) (part ∷ parts) each =
     some_end-after (fits_items items) part (concat parts)
-        (some_end-whole (fits_items items) (concat parts) (fits_where_each items parts each.1))
+    (some_end-whole (fits_items items) (concat parts) (fits_where_each items parts each.1))
 fits_where_each (one_of negated ranges ∷ items) (part ∷ parts) each =
     let P : List ℕ → Type 0 = λ t. fits_items (one_of negated ranges ∷ items) (t ++ concat parts) ≡ true in
     let c = each.0.0 in
     subst P (sym each.0.1) (and_from (admits negated ranges c) (fits_items items (concat parts)) each.0.2
-        (fits_where_each items parts each.1))
+    (fits_where_each items parts each.1))
 
 pub fits_items_where_cut : (items : List Item) (word : List ℕ) → IsTrue (fits_items items word) ↔ Fits items word
 unfolding Fits

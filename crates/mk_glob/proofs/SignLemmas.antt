@@ -68,8 +68,17 @@ widths-signs (c ∷ d ∷ rest) = elim (cases_Bool (eqb c 92)) [
   | inl e ↦
       let same : widths (signs (c ∷ d ∷ rest)) ≡ len_utf8 d + 1 + widths (signs rest) = ap widths (cond-true (eqb c 92) _ _ e) in
       let one : len_utf8 c ≡ 1 = ap len_utf8 (eqb-true c 92 e) in
-      omega (arith, same, one, widths-signs rest, length-append (encode c) (encode d ++ encodes rest), length-append (encode d)
-          (encodes rest), length-encode c, length-encode d)
+      omega (
+        arith,
+        same,
+        one,
+        widths-signs rest,
+        length-append (encode c) (encode d ++ encodes rest),
+        length-append (encode d)
+            (encodes rest),
+        length-encode c,
+        length-encode d,
+      )
   | inr e ↦
       let same : widths (signs (c ∷ d ∷ rest)) ≡ len_utf8 c + widths (signs (d ∷ rest)) = ap widths (cond-false (eqb c 92) _ _ e) in
       omega (arith, same, widths-signs (d ∷ rest), length-append (encode c) (encodes (d ∷ rest)), length-encode c)

@@ -8,8 +8,12 @@ use Rattle.mk_ref.proofs.InsideSteps.{OccursAt, written_as}
 
 standing : (text : List ℕ) (at next : ℕ) (atom : TextAtom) → at < next → next ≤ length text
     → first_atom (drop at text) ≡ Some (atom, drop next text) → OccursAt text at next atom
-standing text at next atom later within first = record { first = first; written = written_as text at next atom (omega (arith, later)) first;
-    later = later; within = within }
+standing text at next atom later within first = record {
+  first = first;
+  written = written_as text at next atom (omega (arith, later)) first;
+  later = later;
+  within = within;
+}
 
 -- a byte that means itself
 pub byte-at-place : (text : List ℕ) (at : ℕ) → at < length text → opening_of (drop at text) ≡ None
@@ -24,7 +28,7 @@ pub pair-at-place : (text : List ℕ) (at : ℕ) → at + 2 ≤ length text → 
     → OccursAt text at (at + 2) EscapedDollar
 pair-at-place text at room opens =
     standing text at (at + 2) EscapedDollar (omega arith) room (first-opening (drop at text) (Some Doubled) opens
-        ∙ ap (λ l. Some (EscapedDollar, l)) (drop-drop 2 at text))
+    ∙ ap (λ l. Some (EscapedDollar, l)) (drop-drop 2 at text))
 
 -- a reference of one letter
 pub letter-at-place : (text : List ℕ) (at : ℕ) → at + 2 ≤ length text → opening_of (drop at text) ≡ Some Letter
@@ -32,4 +36,4 @@ pub letter-at-place : (text : List ℕ) (at : ℕ) → at + 2 ≤ length text �
 letter-at-place text at room opens =
     let atom = Reference (take 2 (drop at text)) (take 1 (drop 1 (drop at text))) None in
     standing text at (at + 2) atom (omega arith) room (first-opening (drop at text) (Some Letter) opens
-        ∙ ap (λ l. Some (atom, l)) (drop-drop 2 at text))
+    ∙ ap (λ l. Some (atom, l)) (drop-drop 2 at text))

@@ -25,7 +25,7 @@ iteration-at (suc iterations) zero names words below = ap (λ n. Some (zip names
 iteration-at (suc iterations) (suc index) names words below =
     iteration-at iterations index names (drop (length names) words) (omega (arith, below))
     ∙ ap (λ l. Some (zip names l)) (drop-drop (index * length names) (length names) words
-        ∙ ap (λ n. drop n words) (next-first index (length names)))
+    ∙ ap (λ n. drop n words) (next-first index (length names)))
 
 -- the words of an iteration are there
 pub iteration-within : (index size all : ℕ) → index < all / size → index * size + size ≤ all

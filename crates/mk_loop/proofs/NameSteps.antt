@@ -46,7 +46,7 @@ name-more text start mark at next atom h near other stands plain uncoloned = rec
   atoms = h.atoms ++ atom ∷ [];
   read = h.read ∙ ap (option_map (atoms_before h.atoms))
       (ap (up_to_mark mark) (drop_more text at 0 near) ∙ up_to-atom mark (get_or text at 0) (drop (at + 1) text)
-          (ne_eqb (get_or text at 0) mark other)
+      (ne_eqb (get_or text at 0) mark other)
       ∙ ap (λ l. with_more (up_to_mark mark) (first_atom l)) (sym (drop_more text at 0 near))
       ∙ ap (with_more (up_to_mark mark)) stands.first)
       ∙ before-one h.atoms atom (up_to_mark mark (drop next text));
@@ -96,11 +96,11 @@ ends-at-mark text start mark at h near here inside rest is =
     let read : up_to_mark mark (drop at text) ≡ Some ([], drop (at + 1) text) =
     ap (up_to_mark mark) (drop_more text at 0 near) ∙ up_to-cons mark (get_or text at 0) (drop (at + 1) text)
     ∙ ap (λ t. cond t (Some ([], drop (at + 1) text)) (with_more (up_to_mark mark) (first_atom (get_or text at 0 ∷ drop (at + 1) text))))
-        (eq-eqb (get_or text at 0) mark here) in
+    (eq-eqb (get_or text at 0) mark here) in
     let same = same_Some (on.more, rest) ([], drop (at + 1) text) (sym on.read ∙ read) in
     let all : inside ≡ h.atoms = on.is ∙ ap (λ l. h.atoms ++ l) (ap (λ x. x.0) same) ∙ append-nil h.atoms in
     let before : before_colon inside ≡ h.atoms = ap before_colon on.is ∙ before-none h.atoms on.more h.uncoloned
-        ∙ ap (λ l. h.atoms ++ before_colon l) (ap (λ x. x.0) same) ∙ append-nil h.atoms in
+    ∙ ap (λ l. h.atoms ++ before_colon l) (ap (λ x. x.0) same) ∙ append-nil h.atoms in
     record {
       plain = ap (list_any is_reference) before ∙ h.plain;
       name = ap sources before ∙ h.name;
@@ -121,13 +121,13 @@ ends-at-colon text start mark at h near other colon inside rest is =
     let on = name-goes-on text start mark at inside rest h is in
     let read : up_to_mark mark (drop at text) ≡ option_map (atom_before (Byte 58)) (up_to_mark mark (drop (at + 1) text)) =
     ap (up_to_mark mark) (drop_more text at 0 near) ∙ up_to-atom mark (get_or text at 0) (drop (at + 1) text)
-        (ne_eqb (get_or text at 0) mark other)
+    (ne_eqb (get_or text at 0) mark other)
     ∙ ap (λ l. with_more (up_to_mark mark) (first_atom l)) (sym (drop_more text at 0 near))
     ∙ ap (with_more (up_to_mark mark)) (first-colon text at near colon) in
     let split = split-one (Byte 58) (up_to_mark mark (drop (at + 1) text)) on.more rest (sym read ∙ on.read) in
     let all : inside ≡ h.atoms ++ Byte 58 ∷ split.0 = on.is ∙ ap (λ l. h.atoms ++ l) split.1.0 in
     let before : before_colon inside ≡ h.atoms = ap before_colon all ∙ before-none h.atoms (Byte 58 ∷ split.0)
-        h.uncoloned ∙ append-nil h.atoms in
+    h.uncoloned ∙ append-nil h.atoms in
     record {
       plain = ap (list_any is_reference) before ∙ h.plain;
       name = ap sources before ∙ h.name;
@@ -163,12 +163,12 @@ reference-here text start mark at atom behind h near other first is plain inside
     let on = name-goes-on text start mark at inside rest h read in
     let here : up_to_mark mark (drop at text) ≡ option_map (atom_before atom) (up_to_mark mark behind) =
     ap (up_to_mark mark) (drop_more text at 0 near) ∙ up_to-atom mark (get_or text at 0) (drop (at + 1) text)
-        (ne_eqb (get_or text at 0) mark other)
+    (ne_eqb (get_or text at 0) mark other)
     ∙ ap (λ l. with_more (up_to_mark mark) (first_atom l)) (sym (drop_more text at 0 near)) ∙ ap (with_more (up_to_mark mark)) first in
     let split = split-one atom (up_to_mark mark behind) on.more rest (sym here ∙ on.read) in
     let before : before_colon inside ≡ h.atoms ++ atom ∷ before_colon split.0 =
     ap before_colon (on.is ∙ ap (λ l. h.atoms ++ l) split.1.0) ∙ before-none h.atoms (atom ∷ split.0) h.uncoloned
-        ∙ ap (λ t. h.atoms ++ cond t [] (atom ∷ before_colon split.0)) plain in
+    ∙ ap (λ t. h.atoms ++ cond t [] (atom ∷ before_colon split.0)) plain in
     ap (list_any is_reference) before ∙ any-here h.atoms (before_colon split.0) atom is
 
 -- a reference of one letter is in the name
@@ -176,7 +176,7 @@ pub name-letter : (text : List ℕ) (start mark at : ℕ) → NameSoFar text sta
     → opening_of (drop at text) ≡ Some Letter → EndsName text start mark None
 name-letter text start mark at h near other opens =
     reference-here text start mark at (Reference (take 2 (drop at text)) (take 1 (drop 1 (drop at text))) None) (drop 2 (drop at text)) h
-        near other (first-opening (drop at text) (Some Letter) opens) refl refl
+    near other (first-opening (drop at text) (Some Letter) opens) refl refl
 
 marked-here : (text : List ℕ) (start mark at inner : ℕ) (read : Option (List TextAtom × List ℕ)) → NameSoFar text start mark at
     → at < length text → get_or text at 0 ≢ mark
@@ -185,10 +185,10 @@ marked-here text start mark at inner None h near other opens read = λ inside re
     let on = name-goes-on text start mark at inside rest h is in
     let here : up_to_mark mark (drop at text) ≡ None =
     ap (up_to_mark mark) (drop_more text at 0 near) ∙ up_to-atom mark (get_or text at 0) (drop (at + 1) text)
-        (ne_eqb (get_or text at 0) mark other)
+    (ne_eqb (get_or text at 0) mark other)
     ∙ ap (λ l. with_more (up_to_mark mark) (first_atom l)) (sym (drop_more text at 0 near))
     ∙ ap (with_more (up_to_mark mark)) (first-marked text at inner opens
-        ∙ ap (option_map (marked_first (take 2 (drop at text)) inner)) read) in
+    ∙ ap (option_map (marked_first (take 2 (drop at text)) inner)) read) in
     absurd (none-some (on.more, rest) (sym here ∙ on.read))
 marked-here text start mark at inner (Some x) h near other opens read =
     reference-here text start mark at (marked_first (take 2 (drop at text)) inner x).0 x.1 h near other

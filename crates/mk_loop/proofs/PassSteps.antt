@@ -47,7 +47,7 @@ pub here-on : (line : List ℕ) (pass : Pass) (end : ℕ) (bytes : List ℕ) →
 here-on line pass end bytes low high is =
     ap (λ l. record (so_far pass.joined) { text = l })
     (ap (λ l. (string_bytes pass.joined.text ++ slice_range line pass.copied pass.at) ++ l) is ∙ written-on (string_bytes pass.joined.text)
-        line pass.copied pass.at end low high)
+    line pass.copied pass.at end low high)
 
 map-reverse : (items : List Around) → map surround_of (reverse items) ≡ reverse (map surround_of items)
 map-reverse [] = refl
@@ -66,12 +66,14 @@ pub shut-mark : (pass : Pass) (outer : List Around) (around : Around) (b : ℕ) 
 shut-mark pass outer around b is shut =
     eqb-true b (mark_of (surround_of around))
     (sym (ap (λ l. closes_first l b) (ap (λ l. map surround_of (reverse l)) is ∙ ap (map surround_of) (reverse-append outer (around ∷ []))))
-        ∙ shut)
+    ∙ shut)
 
 -- the mark that an opening tells is one byte
 pub ascii-mark : (text : List ℕ) (mark : ℕ) → opening_of text ≡ Some (Marked mark) → mark < 128
-ascii-mark text mark opens = elim (opens_with text (Marked mark) opens).front [ inl brace ↦ subst (λ n. n < 128) (sym brace.1) (lit< tt) |
-    inr parenthesis ↦ subst (λ n. n < 128) (sym parenthesis.1) (lit< tt) ]
+ascii-mark text mark opens = elim (opens_with text (Marked mark) opens).front [
+  | inl brace ↦ subst (λ n. n < 128) (sym brace.1) (lit< tt)
+  | inr parenthesis ↦ subst (λ n. n < 128) (sym parenthesis.1) (lit< tt)
+]
 
 -- a pass that goes on into a reference that stays
 pub kept-placed : (line : List ℕ) (pass next : Pass) (mark : ℕ) → IsPlaced line pass → pass.at + 2 ≤ length line → mark < 128
@@ -195,7 +197,7 @@ module _ (words : LoopWords) (variables : Variables) (line : List ℕ) where
           ap (λ l. goes words variables l (here line pass) m) begins.is ∙ goes-atom words variables atom begins.more (here line pass) m
               ∙ ap (λ r. after r (λ next m'. goes words variables begins.more next m')) (same (here line pass))
               ∙ ap (λ s. goes words variables begins.more s m)
-                  (here-on line pass end (source atom) placed.ordered (omega (arith, standing.later)) standing.written),
+              (here-on line pass end (source atom) placed.ordered (omega (arith, standing.later)) standing.written),
         ),
       )
 
@@ -204,19 +206,19 @@ module _ (words : LoopWords) (variables : Variables) (line : List ℕ) where
       → opening_of (drop pass.at line) ≡ Some (Marked mark)
       → closes pass (get_or line pass.at 0) ≡ false
       → ((atoms : List TextAtom) (rest : List ℕ) → up_to_mark mark (drop (pass.at + 2) line) ≡ Some (atoms, rest)
-          → cut (sources (before_colon atoms)) ≡ (before_colon atoms, []) → word_named words (sources (before_colon atoms)) ≡ None)
+      → cut (sources (before_colon atoms)) ≡ (before_colon atoms, []) → word_named words (sources (before_colon atoms)) ≡ None)
       → next.joined ≡ pass.joined → next.around.items ≡ pass.around.items ++ v.Kept mark ∷ []
       → next.copied ≡ pass.copied → next.at ≡ pass.at + 2
       → HasLeft line pass left → ContinuesPass words variables line pass left m (Ok next) m
   pass-keep pass next mark left m placed room opens other none joined around copied at stands =
       let near : pass.at < length line = omega arith in
       let marked = begins-marked left line pass.at mark near stands.atoms
-          (ap (λ l. closes_first l (get_or line pass.at 0)) stands.around ∙ other) opens in
+      (ap (λ l. closes_first l (get_or line pass.at 0)) stands.around ∙ other) opens in
       let front = take 2 (drop pass.at line) in
       let atom = marked_reference front marked.atoms mark in
       let begins = marked.begins in
       let two : front ≡ slice_range line pass.at (pass.at + 2) = ap (λ n. take n (drop pass.at line))
-          (let e : 2 ≡ (pass.at + 2) - pass.at = omega arith in e) in (
+      (let e : 2 ≡ (pass.at + 2) - pass.at = omega arith in e) in (
         Within marked.atoms (Staying mark) begins.more,
         (
           record {
@@ -226,11 +228,11 @@ module _ (words : LoopWords) (variables : Variables) (line : List ℕ) where
           },
           ap (λ l. goes words variables l (here line pass) m) begins.is ∙ goes-atom words variables atom begins.more (here line pass) m
               ∙ ap (λ found. after (put_reference variables (put words variables) (here line pass) (source atom)
-                  (option_map sources (following_colon marked.atoms)) found m) (λ next' m'. goes words variables begins.more next' m'))
+              (option_map sources (following_colon marked.atoms)) found m) (λ next' m'. goes words variables begins.more next' m'))
               (none marked.atoms marked.rest marked.read marked.alone.name)
               ∙ ap (λ r. after r (λ next' m'. goes words variables begins.more next' m'))
-                  (stays-marked words variables front mark marked.atoms (here line pass) m
-                  (opens_with (drop pass.at line) (Marked mark) opens).front marked.alone.inside)
+              (stays-marked words variables front mark marked.atoms (here line pass) m
+              (opens_with (drop pass.at line) (Marked mark) opens).front marked.alone.inside)
               ∙ ap (λ s. goes words variables (Within marked.atoms (Staying mark) begins.more) s m)
               (here-on line pass (pass.at + 2) front placed.ordered (omega arith) two
               ∙ ap (λ j. as_written (so_far j) (slice_range line pass.copied (pass.at + 2))) (sym joined)
@@ -243,7 +245,7 @@ module _ (words : LoopWords) (variables : Variables) (line : List ℕ) where
   here-none pass same =
       ap (λ n. as_written (so_far pass.joined) (slice_range line n pass.at)) same
       ∙ ap (λ l. record (so_far pass.joined) { text = l }) (ap (λ l. string_bytes pass.joined.text ++ l) (range_none line pass.at)
-          ∙ append-nil (string_bytes pass.joined.text))
+      ∙ append-nil (string_bytes pass.joined.text))
 
   put-end : (pass : Pass) (behind : ℕ) (left : Left) (m m' : Meter) (result : Result Pass (PureStop FaultKind)) (atom : TextAtom)
       (begins : BeginsWith left atom (drop behind line)) (outcome : Result (SoFar × Meter) (FaultKind × Meter))
@@ -255,15 +257,18 @@ module _ (words : LoopWords) (variables : Variables) (line : List ℕ) where
   put-end pass behind left m m' (Ok next) atom begins outcome whole gives around copied at stands = (
     begins.more,
     (
-      record { atoms = subst (λ n. IsLeft begins.more (drop n line)) (sym at) begins.atoms; around = begins.around ∙ stands.around
-          ∙ ap (λ l. map surround_of (reverse l)) (sym around) },
+      record {
+        atoms = subst (λ n. IsLeft begins.more (drop n line)) (sym at) begins.atoms;
+        around = begins.around ∙ stands.around
+            ∙ ap (λ l. map surround_of (reverse l)) (sym around);
+      },
       whole ∙ ap (λ r. after r (λ next' m''. goes words variables begins.more next' m'')) gives
           ∙ ap (λ s. goes words variables begins.more s m') (sym (here-none next (copied ∙ sym at))),
     ),
   )
   put-end pass behind left m m' (Err stop) atom begins outcome whole gives around copied at stands =
       StopsPurelyAt-whole stop m' _ _ (λ end stops. whole
-          ∙ ap (λ r. after r (λ next' m''. goes words variables begins.more next' m'')) stops) gives
+      ∙ ap (λ r. after r (λ next' m''. goes words variables begins.more next' m'')) stops) gives
 
   -- a word comes in the place of a reference
   pub pass-put : (pass : Pass) (behind : ℕ) (left : Left) (atom : TextAtom) (written name word : List ℕ) (m m' : Meter) (paid : Unit {0})
@@ -276,13 +281,13 @@ module _ (words : LoopWords) (variables : Variables) (line : List ℕ) where
       → HasLeft line pass left → ContinuesPass words variables line pass left m result m'
   pass-put pass behind left atom written name word m m' paid result is named pays begins gives around copied at stands =
       let whole : goes words variables left (here line pass) m ≡ after (with_loop_word (here line pass) word m')
-          (λ next' m''. goes words variables begins.more next' m'') =
+      (λ next' m''. goes words variables begins.more next' m'') =
       ap (λ l. goes words variables l (here line pass) m) begins.is ∙ goes-atom words variables atom begins.more (here line pass) m
       ∙ ap (λ u. after (iteration words variables (here line pass) u m) (λ next' m''. goes words variables begins.more next' m'')) is
       ∙ ap (λ found. after (put_reference variables (put words variables) (here line pass) written None found m)
-          (λ next' m''. goes words variables begins.more next' m'')) named
+      (λ next' m''. goes words variables begins.more next' m'')) named
       ∙ ap (λ r. after r (λ next' m''. goes words variables begins.more next' m'')) (replaced-paid words variables (here line pass) written
-          None word m m' paid pays) in
+      None word m m' paid pays) in
       put-end pass behind left m m' result atom begins (with_loop_word (here line pass) word m') whole gives around copied at stands
 
   -- into the modifiers of a reference that is replaced
@@ -292,29 +297,30 @@ module _ (words : LoopWords) (variables : Variables) (line : List ℕ) where
       → up_to_mark mark (drop behind line) ≡ Some (more, rest)
       → (begins : BeginsWith left (Reference written name (Some (sources more))) rest)
       → so_far next.joined ≡ nothing → map surround_of next.around.items ≡ map surround_of pass.around.items ++ Changing mark
-          word (here line pass) ∷ []
+      word (here line pass) ∷ []
       → next.copied ≡ behind → next.at ≡ behind → HasLeft line pass left → ContinuesPass words variables line pass left m (Ok next) m'
   pass-replace pass next mark behind left written name word more rest m m' paid named pays alone read begins joined
       around copied at stands = (
-    Within more (Changing mark word (here line pass)) begins.more,
-    (
-      record {
-        atoms = (rest, (ap (λ n. up_to_mark mark (drop n line)) at ∙ read, begins.atoms));
-        around = ap (λ l. Changing mark word (here line pass) ∷ l) (begins.around ∙ stands.around ∙ map-reverse pass.around.items)
-            ∙ sym (reverse-append (map surround_of pass.around.items) (Changing mark word (here line pass) ∷ [])) ∙ ap reverse (sym around)
-            ∙ sym (map-reverse next.around.items);
-      },
-      ap (λ l. goes words variables l (here line pass) m) begins.is
-          ∙ goes-atom words variables (Reference written name (Some (sources more))) begins.more (here line pass) m
-          ∙ ap (λ found. after (put_reference variables (put words variables) (here line pass) written (Some (sources more)) found m)
+        Within more (Changing mark word (here line pass)) begins.more,
+        (
+          record {
+            atoms = (rest, (ap (λ n. up_to_mark mark (drop n line)) at ∙ read, begins.atoms));
+            around = ap (λ l. Changing mark word (here line pass) ∷ l) (begins.around ∙ stands.around ∙ map-reverse pass.around.items)
+                ∙ sym (reverse-append (map surround_of pass.around.items) (Changing mark word (here line pass) ∷ []))
+                ∙ ap reverse (sym around)
+                ∙ sym (map-reverse next.around.items);
+          },
+          ap (λ l. goes words variables l (here line pass) m) begins.is
+              ∙ goes-atom words variables (Reference written name (Some (sources more))) begins.more (here line pass) m
+              ∙ ap (λ found. after (put_reference variables (put words variables) (here line pass) written (Some (sources more)) found m)
               (λ next' m''. goes words variables begins.more next' m'')) named
-          ∙ ap (λ r. after r (λ next' m''. goes words variables begins.more next' m''))
+              ∙ ap (λ r. after r (λ next' m''. goes words variables begins.more next' m''))
               (replaced-paid words variables (here line pass) written (Some (sources more)) word m m' paid pays)
-          ∙ goes-changing words variables more mark word (here line pass) begins.more m' alone
-          ∙ ap (λ s. goes words variables (Within more (Changing mark word (here line pass)) begins.more) s m')
+              ∙ goes-changing words variables more mark word (here line pass) begins.more m' alone
+              ∙ ap (λ s. goes words variables (Within more (Changing mark word (here line pass)) begins.more) s m')
               (sym (here-none next (copied ∙ sym at) ∙ joined)),
-    ),
-  )
+        ),
+      )
 
   -- a reference to a loop's variable that can't be paid for
   pub pass-unpaid : (pass : Pass) (left : Left) (atom : TextAtom) (rest written name : List ℕ) (modifiers : Option (List ℕ)) (word : List ℕ)
@@ -324,12 +330,12 @@ module _ (words : LoopWords) (variables : Variables) (line : List ℕ) where
   pass-unpaid pass left atom rest written name modifiers word m m' stop is named begins stops =
       StopsPurelyAt-whole stop m' (pay m) (goes words variables left (here line pass) m)
       (λ end fails. ap (λ l. goes words variables l (here line pass) m) begins.is
-          ∙ goes-atom words variables atom begins.more (here line pass) m
+      ∙ goes-atom words variables atom begins.more (here line pass) m
       ∙ ap (λ u. after (iteration words variables (here line pass) u m) (λ next' m''. goes words variables begins.more next' m'')) is
       ∙ ap (λ found. after (put_reference variables (put words variables) (here line pass) written modifiers found m)
-          (λ next' m''. goes words variables begins.more next' m'')) named
+      (λ next' m''. goes words variables begins.more next' m'')) named
       ∙ ap (λ r. after r (λ next' m''. goes words variables begins.more next' m''))
-          (replaced-unpaid words variables (here line pass) written modifiers word m end fails))
+      (replaced-unpaid words variables (here line pass) written modifiers word m end fails))
       stops
 
   -- the mark of the innermost reference is at the place
@@ -350,9 +356,9 @@ module _ (words : LoopWords) (variables : Variables) (line : List ℕ) where
       let over : map surround_of (reverse pass.around.items) ≡ surround_of around ∷ map surround_of (reverse outer) =
       ap (λ l. map surround_of (reverse l)) last ∙ ap (map surround_of) (reverse-append outer (around ∷ [])) in
       let found = closes-left left b (drop (pass.at + 1) line) (subst (IsLeft left) first stands.atoms)
-          (ap (λ l. closes_first l b) stands.around ∙ shut) in
+      (ap (λ l. closes_first l b) stands.around ∙ shut) in
       let same : found.surround ∷ surrounds found.more ≡ surround_of around ∷ map surround_of (reverse outer) = sym found.around
-          ∙ stands.around ∙ over in
+      ∙ stands.around ∙ over in
       record {
         more = found.more;
         atoms = found.atoms;
@@ -360,7 +366,7 @@ module _ (words : LoopWords) (variables : Variables) (line : List ℕ) where
         becomes = λ m. ap (λ l. goes words variables l (here line pass) m) found.is ∙ goes-closed words variables found.surround
             found.more (here line pass) m
             ∙ ap (λ s. after (close_reference variables s (here line pass) m) (λ next m'. goes words variables found.more next m'))
-                (ap (λ l. get_or l 0 (surround_of around)) same);
+            (ap (λ l. get_or l 0 (surround_of around)) same);
         mark = shut-mark pass outer around b last shut;
       }
 
@@ -372,11 +378,14 @@ module _ (words : LoopWords) (variables : Variables) (line : List ℕ) where
   pass-kept pass next left mark outer m placed near found joined around copied at =
       let one : mark ∷ [] ≡ slice_range line pass.at (pass.at + 1) =
       ap (λ b. b ∷ []) (sym found.mark) ∙ sym (ap (take 1) (drop_more line pass.at 0 near)) ∙ ap (λ n. take n (drop pass.at line))
-          (let e : 1 ≡ (pass.at + 1) - pass.at = omega arith in e) in (
+      (let e : 1 ≡ (pass.at + 1) - pass.at = omega arith in e) in (
         found.more,
         (
-          record { atoms = subst (λ n. IsLeft found.more (drop n line)) (sym at) found.atoms; around = found.outside
-              ∙ ap (λ l. map surround_of (reverse l)) (sym around) },
+          record {
+            atoms = subst (λ n. IsLeft found.more (drop n line)) (sym at) found.atoms;
+            around = found.outside
+                ∙ ap (λ l. map surround_of (reverse l)) (sym around);
+          },
           found.becomes m
               ∙ ap (λ s. goes words variables found.more s m)
               (here-on line pass (pass.at + 1) (mark ∷ []) placed.ordered (omega arith) one
@@ -395,8 +404,11 @@ module _ (words : LoopWords) (variables : Variables) (line : List ℕ) where
   pass-changed pass next left around outer m m' found end over copied at = (
     found.more,
     (
-      record { atoms = subst (λ n. IsLeft found.more (drop n line)) (sym at) found.atoms; around = found.outside
-          ∙ ap (λ l. map surround_of (reverse l)) (sym over) },
+      record {
+        atoms = subst (λ n. IsLeft found.more (drop n line)) (sym at) found.atoms;
+        around = found.outside
+            ∙ ap (λ l. map surround_of (reverse l)) (sym over);
+      },
       found.becomes m ∙ ap (λ r. after r (λ next' m''. goes words variables found.more next' m'')) end
           ∙ ap (λ s. goes words variables found.more s m') (sym (here-none next (copied ∙ sym at))),
     ),
@@ -408,7 +420,7 @@ module _ (words : LoopWords) (variables : Variables) (line : List ℕ) where
       → StopsPurelyAt stop m' (goes words variables left (here line pass) m)
   pass-stopped pass left around outer m m' stop found stops =
       StopsPurelyAt-whole stop m' _ _ (λ end fails. found.becomes m
-          ∙ ap (λ r. after r (λ next' m''. goes words variables found.more next' m'')) fails) stops
+      ∙ ap (λ r. after r (λ next' m''. goes words variables found.more next' m'')) fails) stops
 
   pub marked-put : (pass : Pass) (mark end : ℕ) (left : Left) (word text : List ℕ) (m m' : Meter) (paid : Unit {0})
       (result : Result Pass (PureStop FaultKind)) → pass.at + 2 ≤ length line
@@ -421,14 +433,14 @@ module _ (words : LoopWords) (variables : Variables) (line : List ℕ) where
       → HasLeft line pass left → ContinuesPass words variables line pass left m result m'
   marked-put pass mark end left word text m m' paid result room opens other ends here' is named pays gives around copied at stands =
       let marked = begins-marked left line pass.at mark (omega arith) stands.atoms
-          (ap (λ l. closes_first l (get_or line pass.at 0)) stands.around ∙ other) opens in
+      (ap (λ l. closes_first l (get_or line pass.at 0)) stands.around ∙ other) opens in
       let name-ends = ends.3 marked.atoms marked.rest marked.read in
       let closing = name-ends.closes here' in
       let front = take 2 (drop pass.at line) in
       pass-put pass (end + 1) left (marked_reference front marked.atoms mark) (front ++ sources marked.atoms ++ mark ∷ [])
-          (sources (before_colon marked.atoms)) word m m' paid result
+      (sources (before_colon marked.atoms)) word m m' paid result
       (ap (λ o. Reference (front ++ sources marked.atoms ++ mark ∷ []) (sources (before_colon marked.atoms)) (option_map sources o))
-          closing.0)
+      closing.0)
       (name-word words line (pass.at + 2) mark end marked.atoms marked.rest text name-ends marked.alone.name is ∙ sym named) pays
       (subst (BeginsWith left (marked_reference front marked.atoms mark)) closing.1 marked.begins) gives around copied at stands
 
@@ -440,13 +452,13 @@ module _ (words : LoopWords) (variables : Variables) (line : List ℕ) where
       → HasLeft line pass left → StopsPurelyAt stop m' (goes words variables left (here line pass) m)
   marked-unpaid pass mark end left word text m m' stop room opens other ends is named stops stands =
       let marked = begins-marked left line pass.at mark (omega arith) stands.atoms
-          (ap (λ l. closes_first l (get_or line pass.at 0)) stands.around ∙ other) opens in
+      (ap (λ l. closes_first l (get_or line pass.at 0)) stands.around ∙ other) opens in
       let name-ends = ends.3 marked.atoms marked.rest marked.read in
       let front = take 2 (drop pass.at line) in
       pass-unpaid pass left (marked_reference front marked.atoms mark) marked.rest (front ++ sources marked.atoms ++ mark ∷ [])
-          (sources (before_colon marked.atoms)) (option_map sources (following_colon marked.atoms)) word m m' stop
+      (sources (before_colon marked.atoms)) (option_map sources (following_colon marked.atoms)) word m m' stop
       refl (name-word words line (pass.at + 2) mark end marked.atoms marked.rest text name-ends marked.alone.name is
-          ∙ sym named) marked.begins stops
+      ∙ sym named) marked.begins stops
 
   pub marked-replace : (pass next : Pass) (mark end : ℕ) (left : Left) (word text : List ℕ) (m m' : Meter) (paid : Unit {0})
       → pass.at + 2 ≤ length line
@@ -454,18 +466,18 @@ module _ (words : LoopWords) (variables : Variables) (line : List ℕ) where
       → EndsName line (pass.at + 2) mark (Some end) → get_or line end 0 ≢ mark
       → text ≡ slice_range line (pass.at + 2) end → Some word ≡ word_of words text → pay m ≡ Ok (paid, m')
       → so_far next.joined ≡ nothing → map surround_of next.around.items ≡ map surround_of pass.around.items ++ Changing mark
-          word (here line pass) ∷ []
+      word (here line pass) ∷ []
       → next.copied ≡ end + 1 → next.at ≡ end + 1 → HasLeft line pass left → ContinuesPass words variables line pass left m (Ok next) m'
   marked-replace pass next mark end left word text m m' paid room opens other ends colon is named pays joined around copied at stands =
       let marked = begins-marked left line pass.at mark (omega arith) stands.atoms
-          (ap (λ l. closes_first l (get_or line pass.at 0)) stands.around ∙ other) opens in
+      (ap (λ l. closes_first l (get_or line pass.at 0)) stands.around ∙ other) opens in
       let name-ends = ends.3 marked.atoms marked.rest marked.read in
       let on = name-ends.goes_on colon in
       let front = take 2 (drop pass.at line) in
       pass-replace pass next mark (end + 1) left (front ++ sources marked.atoms ++ mark ∷ []) (sources (before_colon marked.atoms)) word
-          on.0 marked.rest m m' paid
+      on.0 marked.rest m m' paid
       (name-word words line (pass.at + 2) mark end marked.atoms marked.rest text name-ends marked.alone.name is ∙ sym named) pays
       (subst (λ o. IfSome o (λ more. cut (sources more) ≡ (more, []))) on.1.0 marked.alone.modifiers) on.1.1
       (subst (λ o. BeginsWith left (Reference (front ++ sources marked.atoms ++ mark ∷ []) (sources (before_colon marked.atoms))
-          (option_map sources o)) marked.rest) on.1.0 marked.begins)
+      (option_map sources o)) marked.rest) on.1.0 marked.begins)
       joined around copied at stands

@@ -61,9 +61,11 @@ changed-paid pass next m m' copied later some = λ from is.
 none-unspent : {A : Type 0} (from m : Meter) (copied : ℕ) (made : Option A) → IsPaid from copied m → (made ≡ None ↔ (copied ≡ 0))
     → made ≡ None ↔ (m.spent ≡ from.spent)
 none-unspent from m zero made is none = (λ _. is.0 refl, λ _. none.1 refl)
-none-unspent from m (suc copied) made is none =
-    (λ nothing. absurd (cc (none.0 nothing)), λ same. absurd (let more : from.spent < m.spent =
-    is.1 (λ e. cc e) in omega (arith, more, same)))
+none-unspent from m (suc copied) made is none = (
+  λ nothing. absurd (cc (none.0 nothing)),
+  λ same. absurd (let more : from.spent < m.spent =
+      is.1 (λ e. cc e) in omega (arith, more, same)),
+)
 
 pub made-unspent : {A : Type 0} (from m : Meter) (copied : ℕ) (result : Result (Option A) (PureStop FaultKind)) → IsPaid from copied m
     → IfOk result (λ made. made ≡ None ↔ (copied ≡ 0)) → IfOk result (λ made. made ≡ None ↔ (m.spent ≡ from.spent))

@@ -31,8 +31,11 @@ modifiers-small front name mark size (Some text) near =
     omega (arith, near, length-append ((front ++ name) ++ 58 ∷ text) (mark ∷ []), length-append (front ++ name) (58 ∷ text))
 
 front-some : (front : List ℕ) (mark : ℕ) → AreMarks front mark → 0 < length front
-front-some front mark marks = elim marks [ inl brace ↦ subst (λ l. 0 < length l) (sym brace.0) (omega arith) | inr
-    parenthesis ↦ subst (λ l. 0 < length l) (sym parenthesis.0) (omega arith) ]
+front-some front mark marks = elim marks [
+  | inl brace ↦ subst (λ l. 0 < length l) (sym brace.0) (omega arith)
+  | inr
+      parenthesis ↦ subst (λ l. 0 < length l) (sym parenthesis.0) (omega arith)
+]
 
 parts-small : (atom : TextAtom) (size : ℕ) → IsPutTogether atom → length (source atom) ≤ size → HasSmallParts size atom
 parts-small (Byte b) size together near = tt
@@ -44,9 +47,15 @@ parts-small (Reference written name modifiers) size (inl letter) near = (
 parts-small (Reference written name modifiers) size (inr marked) near =
     let some = front-some marked.front marked.mark marked.marks in
     let long : length written ≡ length marked.front + length (name ++ with_colon modifiers ++ marked.mark ∷ []) =
-    ap length marked.written_as ∙ omega (arith, length-append ((marked.front ++ name) ++ with_colon modifiers) (marked.mark ∷ []),
-        length-append (marked.front ++ name) (with_colon modifiers), length-append marked.front name, length-append
-        (name ++ with_colon modifiers) (marked.mark ∷ []), length-append name (with_colon modifiers)) in (
+    ap length marked.written_as ∙ omega (
+      arith,
+      length-append ((marked.front ++ name) ++ with_colon modifiers) (marked.mark ∷ []),
+      length-append (marked.front ++ name) (with_colon modifiers),
+      length-append marked.front name,
+      length-append
+          (name ++ with_colon modifiers) (marked.mark ∷ []),
+      length-append name (with_colon modifiers),
+    ) in (
       inside-small written size (omega (arith, some, long)) near,
       modifiers-small marked.front name marked.mark size modifiers (subst (λ l. length l ≤ size) marked.written_as near),
     )
@@ -61,7 +70,7 @@ sources-small (atom ∷ atoms) size near =
 pub all-small : (text : List ℕ) → All (HasSmallParts (length text)) (atoms_of text)
 all-small text =
     let near = sources-small (atoms_of text) (length text)
-        (omega (arith, ap length (atoms-text text), length-append (sources (atoms_of text)) (left_of text))) in
+    (omega (arith, ap length (atoms-text text), length-append (sources (atoms_of text)) (left_of text))) in
     let together = atoms-together text in
     λ k d lt. parts-small _ (length text) (together k d lt) (near k d lt)
 
@@ -78,7 +87,7 @@ module _ {M F S X : Type 0} (iteration other : S → X → Work M F S) where
   each-same [] h s m = refl
   each-same (x ∷ xs) h s m =
       ap (λ r. after r (λ next. each iteration next xs))
-          (All-head (λ x'. (s' : S) (m' : M) → iteration s' x' m' ≡ other s' x' m') x xs h s m)
+      (All-head (λ x'. (s' : S) (m' : M) → iteration s' x' m' ≡ other s' x' m') x xs h s m)
       ∙ same-after xs (other s x m) (each-same xs (All-tail (λ x'. (s' : S) (m' : M) → iteration s' x' m' ≡ other s' x' m') x xs h))
 
 -- two ways to put words in that agree on shorter texts
@@ -106,7 +115,7 @@ module _ (words : LoopWords) (variables : Variables) where
       → put_reference variables puts so_far written modifiers found m ≡ put_reference variables other so_far written modifiers found m
   reference-same puts other size agree written modifiers None small parts so_far m =
       ap (λ r. after r (λ found. give (as_written found (closing written))))
-          (agree (as_written so_far (take 2 written)) (inside written) m small)
+      (agree (as_written so_far (take 2 written)) (inside written) m small)
   reference-same puts other size agree written modifiers (Some word) small parts so_far m =
       paid-same puts other modifiers word so_far (changed-same puts other size agree modifiers parts word) (pay m)
 
@@ -146,7 +155,7 @@ module _ (words : LoopWords) (variables : Variables) where
   by-same (suc levels) (suc other) text low high so_far m =
       by-suc levels so_far text m
       ∙ atoms-same (put_by words variables levels) (put_by words variables other) text
-          (λ so_far' text' m' near. by-same levels other text' (omega arith) (omega arith) so_far' m') so_far m
+      (λ so_far' text' m' near. by-same levels other text' (omega arith) (omega arith) so_far' m') so_far m
       ∙ sym (by-suc other so_far text m)
 
   put-by : (levels : ℕ) (so_far : SoFar) (text : List ℕ) (m : Meter) → length text ≤ levels → put_by words variables levels so_far text m ≡
@@ -160,7 +169,7 @@ module _ (words : LoopWords) (variables : Variables) where
   put-atoms so_far text m =
       sym (put-by (suc (length text)) so_far text m (omega arith)) ∙ by-suc (length text) so_far text m
       ∙ atoms-same (put_by words variables (length text)) (put words variables) text (λ so_far' text' m' near. put-by (length text) so_far'
-          text' m' (omega arith)) so_far m
+      text' m' (omega arith)) so_far m
 
   -- into nothing none are put
   pub put-nothing : (so_far : SoFar) (m : Meter) → put words variables so_far [] m ≡ Ok (so_far, m)

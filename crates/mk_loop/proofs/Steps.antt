@@ -73,7 +73,7 @@ begins (Outermost atoms) b behind is other none =
     let no : b ∷ behind ≡ [] = ap (λ x. x.1) whole in cc
 begins (Within atoms surround left) b behind is other none =
     none-some (atoms, is.0) (sym (ap (with_more (up_to_mark (mark_of surround))) none)
-        ∙ sym (up_to-atom (mark_of surround) b behind other) ∙ is.1.0)
+    ∙ sym (up_to-atom (mark_of surround) b behind other) ∙ is.1.0)
 
 -- the innermost reference ends here
 pub record Closes (left : Left) (rest : List ℕ) : Type 0 where
@@ -90,7 +90,7 @@ closes-left (Within atoms surround left) b behind is shut =
     let mark = mark_of surround in
     let read : Some ([], behind) ≡ Some (atoms, is.0) =
     sym (ap (λ t. cond t (Some ([], behind)) (with_more (up_to_mark mark) (first_atom (b ∷ behind)))) shut)
-        ∙ sym (up_to-cons mark b behind) ∙ is.1.0 in
+    ∙ sym (up_to-cons mark b behind) ∙ is.1.0 in
     let same = same_Some ([], behind) (atoms, is.0) read in
     record {
       surround = surround;
@@ -126,7 +126,7 @@ begins-marked-by left line at mark (Some x) near is other opens read =
       begins = begins-with left (get_or line at 0) (drop (at + 1) line) (marked_reference (take 2 (drop at line)) x.0 mark) x.1
           (subst (IsLeft left) here is)
           (ap first_atom (sym here) ∙ first-marked line at mark opens ∙ ap (option_map (marked_first (take 2 (drop at line)) mark)) read)
-              other;
+          other;
       alone = subst (λ o. IfSome o (λ y. AreCutAlone y.0)) read (inside-alone mark (drop (at + 2) line));
     }
 
@@ -161,9 +161,9 @@ module _ (words : LoopWords) (variables : Variables) where
   goes-atom atom (Outermost atoms) here m = after-twice (iteration here atom m) (λ next. each iteration next atoms) finished
   goes-atom atom (Within atoms surround left) here m =
       ap (λ r. after r (λ next m'. goes words variables left next m'))
-          (after-twice (iteration here atom m) (λ next. each iteration next atoms) (close_reference variables surround))
+      (after-twice (iteration here atom m) (λ next. each iteration next atoms) (close_reference variables surround))
       ∙ after-twice (iteration here atom m) (λ next m'. after (each iteration next atoms m') (close_reference variables surround))
-          (λ next m'. goes words variables left next m')
+      (λ next m'. goes words variables left next m')
 
   pub goes-closed : (surround : Surround) (left : Left) (here : SoFar) (m : Meter) → goes words variables (Within [] surround left) here m ≡
       after (close_reference variables surround here m) (λ next m'. goes words variables left next m')
@@ -176,23 +176,23 @@ module _ (words : LoopWords) (variables : Variables) where
 
   stays-two : (a b mark : ℕ) (atoms : List TextAtom) (here : SoFar) (m : Meter) → cut (sources atoms) ≡ (atoms, [])
       → stays (put words variables) here (a ∷ b ∷ sources atoms ++ mark ∷ []) m ≡ after
-          (each iteration (as_written here (a ∷ b ∷ [])) atoms m) (close_reference variables (Staying mark))
+      (each iteration (as_written here (a ∷ b ∷ [])) atoms m) (close_reference variables (Staying mark))
   stays-two a b mark atoms here m alone =
       ap (λ l. after (put words variables (as_written here (a ∷ b ∷ [])) l m)
-          (λ found. give (as_written found (closing (a ∷ b ∷ sources atoms ++ mark ∷ []))))) (body-of a b mark (sources atoms))
+      (λ found. give (as_written found (closing (a ∷ b ∷ sources atoms ++ mark ∷ []))))) (body-of a b mark (sources atoms))
       ∙ ap (λ l. after (put words variables (as_written here (a ∷ b ∷ [])) (sources atoms) m) (λ found. give (as_written found l)))
-          (mark-of a b mark (sources atoms))
+      (mark-of a b mark (sources atoms))
       ∙ ap (λ r. after r (λ found. give (as_written found (mark ∷ [])))) (put-atoms words variables (as_written here (a ∷ b ∷ []))
-          (sources atoms) m ∙ ap (λ x. each iteration (as_written here (a ∷ b ∷ [])) x.0 m) alone)
+      (sources atoms) m ∙ ap (λ x. each iteration (as_written here (a ∷ b ∷ [])) x.0 m) alone)
 
   -- a reference with marks that stays
   pub stays-marked : (front : List ℕ) (mark : ℕ) (atoms : List TextAtom) (here : SoFar) (m : Meter) → AreMarks front mark
       → cut (sources atoms) ≡ (atoms, [])
       → stays (put words variables) here (front ++ sources atoms ++ mark ∷ []) m ≡ after (each iteration (as_written here front) atoms m)
-          (close_reference variables (Staying mark))
+      (close_reference variables (Staying mark))
   stays-marked front mark atoms here m marks alone =
       let P : List ℕ → Type 0 = λ f. stays (put words variables) here (f ++ sources atoms ++ mark ∷ []) m ≡ after
-          (each iteration (as_written here f) atoms m) (close_reference variables (Staying mark)) in
+      (each iteration (as_written here f) atoms m) (close_reference variables (Staying mark)) in
       elim marks [
         | inl brace ↦ subst P (sym brace.0) (stays-two 36 123 mark atoms here m alone)
         | inr parenthesis ↦ subst P (sym parenthesis.0) (stays-two 36 40 mark atoms here m alone)
@@ -209,30 +209,30 @@ module _ (words : LoopWords) (variables : Variables) where
   pub replaced-paid : (here : SoFar) (written : List ℕ) (modifiers : Option (List ℕ)) (word : List ℕ) (m m' : Meter)
       (unit : Unit {0}) → pay m ≡ Ok (unit, m')
       → put_reference variables (put words variables) here written modifiers (Some word) m ≡ after
-          (modified_word variables (put words variables) modifiers word m') (λ found. with_loop_word here found)
+      (modified_word variables (put words variables) modifiers word m') (λ found. with_loop_word here found)
   replaced-paid here written modifiers word m m' unit paid =
       ap (λ r. after r (λ _ m''. after (modified_word variables (put words variables) modifiers word m'')
-          (λ found. with_loop_word here found))) paid
+      (λ found. with_loop_word here found))) paid
 
   pub replaced-unpaid : (here : SoFar) (written : List ℕ) (modifiers : Option (List ℕ)) (word : List ℕ) (m : Meter)
       (stop : FaultKind × Meter) → pay m ≡ Err stop
       → put_reference variables (put words variables) here written modifiers (Some word) m ≡ Err stop
   replaced-unpaid here written modifiers word m stop unpaid =
       ap (λ r. after r (λ _ m''. after (modified_word variables (put words variables) modifiers word m'')
-          (λ found. with_loop_word here found))) unpaid
+      (λ found. with_loop_word here found))) unpaid
 
   -- what the modifiers of a replaced reference make of its word
   pub goes-changing : (atoms : List TextAtom) (mark : ℕ) (word : List ℕ) (here : SoFar) (left : Left) (m : Meter)
       → cut (sources atoms) ≡ (atoms, [])
       → after (after (modified_word variables (put words variables) (Some (sources atoms)) word m) (λ found. with_loop_word here found))
-          (λ next m'. goes words variables left next m')
+      (λ next m'. goes words variables left next m')
       ≡ goes words variables (Within atoms (Changing mark word here) left) nothing m
   goes-changing atoms mark word here left m alone =
       ap (λ r. after (after (after (after r finished) (λ text. modified_by variables text word)) (λ found. with_loop_word here found))
-          (λ next m'. goes words variables left next m'))
+      (λ next m'. goes words variables left next m'))
       (put-atoms words variables nothing (sources atoms) m ∙ ap (λ x. each iteration nothing x.0 m) alone)
       ∙ ap (λ r. after r (λ next m'. goes words variables left next m'))
       (after-twice (after (each iteration nothing atoms m) finished) (λ text. modified_by variables text word)
-          (λ found. with_loop_word here found)
+      (λ found. with_loop_word here found)
       ∙ after-twice (each iteration nothing atoms m) finished (λ text m'. after (modified_by variables text word m')
-          (λ found. with_loop_word here found)))
+      (λ found. with_loop_word here found)))

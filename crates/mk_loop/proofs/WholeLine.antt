@@ -27,7 +27,7 @@ stands-first line pass whole around at = record {
 here-first : (line : List ℕ) (pass : Pass) → so_far pass.joined ≡ nothing → pass.copied ≡ 0 → pass.at ≡ 0 → here line pass ≡ nothing
 here-first line pass joined copied at =
     ap (λ s. as_written s (slice_range line pass.copied pass.at)) joined ∙ ap (λ n. as_written nothing (slice_range line n pass.at)) copied
-        ∙ ap (λ n. as_written nothing (slice_range line 0 n)) at
+    ∙ ap (λ n. as_written nothing (slice_range line 0 n)) at
 
 module _ (words : LoopWords) (variables : Variables) where
   -- what a line becomes is what becomes of it from its beginning

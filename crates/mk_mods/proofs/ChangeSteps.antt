@@ -50,7 +50,7 @@ pub text_of-part : (old made part : List ℕ) (symbols later : List Symbol) → 
     → made ++ text_of old (symbols ++ later) ≡ (made ++ part) ++ text_of old later
 text_of-part old made part symbols later e =
     ap (λ l. made ++ l) (flat_map-append (symbol_text old) symbols later ∙ ap (λ l. l ++ text_of old later) e)
-        ∙ sym (append_assoc made part (text_of old later))
+    ∙ sym (append_assoc made part (text_of old later))
 
 pub AllPlain-right : (xs ys : List Symbol) → AllPlain (xs ++ ys) → AllPlain ys
 AllPlain-right [] ys all = all
@@ -73,6 +73,8 @@ AllPlain-part (parts.Reference source) plain = absurd (plain source refl)
 pub AllPlain-more : (part : Part) (whole later : List Symbol) → ((source : String Global) → part ≢ parts.Reference source)
     → AllPlain whole ↔ AllPlain (symbols_of part ++ later)
     → AllPlain whole ↔ AllPlain later
-AllPlain-more part whole later plain so_far =
-    (λ all. AllPlain-right (symbols_of part) later (so_far.0 all), λ more. so_far.1
-        (AllPlain-append (symbols_of part) later (AllPlain-part part plain) more))
+AllPlain-more part whole later plain so_far = (
+  λ all. AllPlain-right (symbols_of part) later (so_far.0 all),
+  λ more. so_far.1
+      (AllPlain-append (symbols_of part) later (AllPlain-part part plain) more),
+)

@@ -20,7 +20,7 @@ around_last-lacks byte (b ∷ rest) none =
 pub around_last-at : (byte : ℕ) (front back : List ℕ) → Lacks byte back → around_last byte (front ++ byte ∷ back) ≡ Some (front, back)
 around_last-at byte [] back none =
     ap (around_here byte byte back) (around_last-lacks byte back none) ∙ cond-true (eqb byte byte) (Some ([], back))
-        None (eq-eqb byte byte refl)
+    None (eq-eqb byte byte refl)
 around_last-at byte (f ∷ front) back none = ap (around_here byte f (front ++ byte ∷ back)) (around_last-at byte front back none)
 
 -- the clause of `rsplit_once`

@@ -39,7 +39,7 @@ err-within (Err fault) text long = within-unmade text fault long
 pub substituted-by : (s : Replacement) (words : List (List ℕ)) (old new : List ℕ) → within_limit (text_of [] s.old) ≡ Some old
     → within_limit (text_of old s.new) ≡ Some new
     → option_and_then (λ changed. within_limit (joined changed)) (words_substituted s words) ≡ within_limit
-        (joined (substituted s old new words))
+    (joined (substituted s old new words))
 substituted-by s words old new is_old is_new =
     let after : Option (List (List ℕ)) → Option (List ℕ) = option_and_then (λ changed. within_limit (joined changed)) in
     ap (λ o. after (option_and_then (λ old. option_map (λ new. substituted s old new words) (within_limit (text_of old s.new))) o)) is_old

@@ -22,11 +22,11 @@ pattern-more whole front front' escaped mark rest marks so_far next inside is =
 
 pub pattern-all : (whole : List ℕ × List TextMark) (front : List ℕ) (escaped : Bool) (mark : TextMark) (rest marks : List TextMark)
     → whole ≡ pattern_after front (pattern_from escaped rest) → rest ≡ mark ∷ marks → (is_char 58 mark && not escaped) ≡
-        true → whole ≡ (front, rest)
+    true → whole ≡ (front, rest)
 pattern-all whole front escaped mark rest marks so_far next ends =
     so_far ∙ ap (λ l. pattern_after front (pattern_from escaped l)) next
     ∙ ap (pattern_after front) (cond-true (is_char 58 mark && not escaped) ([], mark ∷ marks)
-        (in_pattern mark (pattern_from (is_char 92 mark) marks)) ends)
+    (in_pattern mark (pattern_from (is_char 92 mark) marks)) ends)
     ∙ ap₂ (λ l m. (l, m)) (append-nil front) (sym next)
 
 -- flags with those that were read before
@@ -41,7 +41,7 @@ flags-every whole every once mark rest marks so_far next is =
     so_far ∙ ap (λ l. flags_after every once (flags_of l)) next
     ∙ ap (flags_after every once)
     (cond-true (is_char 103 mark) (record later { every = true }) (cond (is_char 49 mark) (record later { once = true })
-        (record { every = false; once = false; behind = mark ∷ marks })) is)
+    (record { every = false; once = false; behind = mark ∷ marks })) is)
     ∙ ap (λ b. record { every = b; once = once || later.once; behind = later.behind }) (or-true every)
 
 pub flags-once : (whole : Flags) (every once : Bool) (mark : TextMark) (rest marks : List TextMark)

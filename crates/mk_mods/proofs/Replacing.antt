@@ -23,7 +23,7 @@ starts-lacks old text none = sym (starts_text false old text none)
 pub ends-append : (front old : List ℕ) → ends_with eqb (front ++ old) old ≡ true
 ends-append front old =
     ap (pointwise eqb old) (drop_at front old (length (front ++ old) - length old) (omega (arith, length-append front old)))
-        ∙ (bytes_eq-Decides old old).1 refl
+    ∙ (bytes_eq-Decides old old).1 refl
 
 pub ends-lacks : (old text : List ℕ) → ((front : List ℕ) → text ≢ front ++ old) → ends_with eqb text old ≡ false
 ends-lacks old text none = sym (ends_text false old text none)
@@ -32,7 +32,7 @@ pub first_replaced-none : (old new word : List ℕ) → IsNowhere old word → f
 first_replaced-none old new [] none = refl
 first_replaced-none old new (b ∷ rest) none =
     cond-false (starts_with eqb (b ∷ rest) old) (Some (new ++ drop (length old) (b ∷ rest)))
-        (option_map (λ made. b ∷ made) (first_replaced old new rest))
+    (option_map (λ made. b ∷ made) (first_replaced old new rest))
     (starts-lacks old (b ∷ rest) (λ behind e. none [] behind e))
     ∙ ap (option_map (λ made. b ∷ made)) (first_replaced-none old new rest (λ front behind e. none (b ∷ front) behind (ap (λ l. b ∷ l) e)))
 
@@ -89,7 +89,7 @@ pub cut-of : (old word : List ℕ) (r : Option (Bor (List ℕ) × Bor (List ℕ)
     → MatchOption r (IsNowhere old word) (λ x. FirstCut old word x.0.now x.1.now)
 cut-of old word None none = λ front behind e.
     none (length front) (omega (arith, ap length e, length-append front (old ++ behind))) behind (ap (drop (length front)) e
-        ∙ drop_at front (old ++ behind) (length front) refl)
+    ∙ drop_at front (old ++ behind) (length front) refl)
 cut-of old word (Some (front, behind)) (i, j, finds, is_front, is_after, le, len_front, len_after) = record {
   whole = sym (take-append-drop i word) ∙ ap (λ l. take i word ++ l) finds.1.split ∙ ap (λ l. l ++ (old ++ drop j word)) (sym is_front)
       ∙ ap (λ l. front.now ++ (old ++ l)) (sym is_after);
@@ -108,13 +108,13 @@ pub all_replaced-cut : (old new word front behind : List ℕ) → 0 < length old
 all_replaced-cut [] new word front behind some cut = absurd (omega arith)
 all_replaced-cut (o ∷ old) new word front behind some cut =
     ap (all_replaced (o ∷ old) new zero) cut.whole ∙ all_replaced-at o old new front behind
-        (subst (λ w. Least (o ∷ old) w front) cut.whole cut.least)
+    (subst (λ w. Least (o ∷ old) w front) cut.whole cut.least)
 
 first_replaced-cut : (o : ℕ) (old new word front behind : List ℕ) → FirstCut (o ∷ old) word front behind
     → first_replaced (o ∷ old) new word ≡ Some (front ++ (new ++ behind))
 first_replaced-cut o old new word front behind cut =
     ap (first_replaced (o ∷ old) new) cut.whole ∙ first_replaced-at o old new front behind
-        (subst (λ w. Least (o ∷ old) w front) cut.whole cut.least)
+    (subst (λ w. Least (o ∷ old) w front) cut.whole cut.least)
 
 pub first-cut : (old new word front behind : List ℕ) → 0 < length old → FirstCut old word front behind → first_replaced old new word ≡ Some
     (front ++ (new ++ behind))
@@ -157,8 +157,14 @@ pub replaced-ends : (s : Replacement) (old new word : List ℕ) (r : Option (Bor
 replaced-ends s old new word None starts ends none = rw (starts, ends, ends-lacks old word none)
 replaced-ends s old new word (Some front) starts ends (n, finds, is_front, len) =
     let whole : word ≡ front.now ++ old = finds.1 ∙ ap (λ l. l ++ old) (sym is_front) in
-    rw (starts, ends, whole, ends-append front.now old, take_at front.now old (length (front.now ++ old) - length old)
-        (omega (arith, length-append front.now old)))
+    rw (
+      starts,
+      ends,
+      whole,
+      ends-append front.now old,
+      take_at front.now old (length (front.now ++ old) - length old)
+          (omega (arith, length-append front.now old)),
+    )
 
 -- a word that ends in the old text, and one that doesn't
 pub suffix-some : (old new word front : List ℕ) → StripsSuffix (FindsTextSuffix old) word front → with_suffix old new word ≡ front ++ new

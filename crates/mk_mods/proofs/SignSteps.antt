@@ -54,10 +54,10 @@ read-more delimiter marks front at mark sign width so_far next other is =
     so_far
     ∙ ap (λ l. option_map (signs_after front) (signs_from zero delimiter l)) next
     ∙ ap (option_map (signs_after front)) (cond-false (is_char delimiter mark) (Some ([], rest))
-        (option_map (sign_before found.0) (signs_from (found.1 - 1) delimiter rest)) other)
+    (option_map (sign_before found.0) (signs_from (found.1 - 1) delimiter rest)) other)
     ∙ ap (λ s. option_map (signs_after front) (option_map (sign_before s.0) (signs_from (s.1 - 1) delimiter rest))) (sym is)
     ∙ ap (λ o. option_map (signs_after front) (option_map (sign_before sign) o)) (signs_from-drop (width - 1) delimiter rest
-        ∙ ap (signs_from zero delimiter) (drop-drop (width - 1) (at + 1) marks ∙ ap (λ n. drop n marks) place))
+    ∙ ap (signs_from zero delimiter) (drop-drop (width - 1) (at + 1) marks ∙ ap (λ n. drop n marks) place))
     ∙ one_more front sign (signs_from zero delimiter (drop (at + width) marks))
 
 pub read-all : (delimiter : ℕ) (marks : List TextMark) (front : List TextSign) (at : ℕ) (mark : TextMark) → ReadAs delimiter marks front at
@@ -69,8 +69,8 @@ read-all delimiter marks front at mark so_far next same =
     so_far
     ∙ ap (λ l. option_map (signs_after front) (signs_from zero delimiter l)) next
     ∙ ap (option_map (signs_after front))
-        (cond-true (is_char delimiter mark) (Some ([], rest)) (option_map (sign_before found.0) (signs_from (found.1 - 1) delimiter rest))
-        same)
+    (cond-true (is_char delimiter mark) (Some ([], rest)) (option_map (sign_before found.0) (signs_from (found.1 - 1) delimiter rest))
+    same)
     ∙ ap (λ l. Some (l, rest)) (append-nil front)
 
 -- signs that end in one, with the anchor or without it

@@ -40,7 +40,7 @@ read_in_turn = record {
       (eq-eqb delimiter delimiter refl);
   escape = λ delimiter c marks other is.
       ap (λ t. cond t (Some ([], Char c ∷ marks)) (after_sign delimiter (Char c ∷ marks) (sign_at delimiter (Char 92) (Char c ∷ marks))))
-          (ne_eqb 92 delimiter (λ same. other (sym same)))
+      (ne_eqb 92 delimiter (λ same. other (sym same)))
       ∙ ap (λ t. after_sign delimiter (Char c ∷ marks) (or_alone (Char 92) (cond t (Some (Plain c)) None))) is;
   alone = λ delimiter mark marks other apart.
       ap (λ t. cond t (Some ([], marks)) (after_sign delimiter marks (sign_at delimiter mark marks))) (not_delimiter delimiter mark other)

@@ -26,7 +26,7 @@ is_kept part = (not (bytes_eq part []) && not (bytes_eq part (codes ".")) && not
 list_all-take : {X : Type 0} (p : X → Bool) (n : ℕ) (xs : List X) → list_all p xs ≡ true → list_all p (take n xs) ≡ true
 list_all-take p n xs a =
     (and_parts (list_all p (take n xs)) (list_all p (drop n xs)) (sym (list_all-append p (take n xs) (drop n xs))
-        ∙ ap (list_all p) (take-append-drop n xs) ∙ a)).0
+    ∙ ap (list_all p) (take-append-drop n xs) ∙ a)).0
 
 -- the parts that are left
 
@@ -51,13 +51,13 @@ keeps_by false true kept part next a b e =
 keeps_by false false kept part next a b e =
     let same : kept ++ part ∷ [] ≡ next = cc in
     subst (λ parts. list_all is_kept parts ≡ true) same (list_all-append is_kept kept (part ∷ [])
-        ∙ and_from (list_all is_kept kept) (list_all is_kept (part ∷ [])) a (and_from (is_kept part) true (b refl refl) refl))
+    ∙ and_from (list_all is_kept kept) (list_all is_kept (part ∷ [])) a (and_from (is_kept part) true (b refl refl) refl))
 
 keeps : (kept : List (List ℕ)) (part : List ℕ) (next : List (List ℕ)) → list_all is_kept kept ≡ true → list_all may_occur part ≡ true
     → with_part kept part ≡ Some next → list_all is_kept next ≡ true
 keeps kept part next a b e =
     keeps_by (bytes_eq part [] || bytes_eq part (codes ".")) (bytes_eq part (codes "..")) kept part next a
-        (λ p q. stands (bytes_eq part []) (bytes_eq part (codes ".")) (bytes_eq part (codes "..")) (list_all may_occur part) p q b) e
+    (λ p q. stands (bytes_eq part []) (bytes_eq part (codes ".")) (bytes_eq part (codes "..")) (list_all may_occur part) p q b) e
 
 pub kept_stand : (kept parts next : List (List ℕ)) → list_all is_kept kept ≡ true → list_all (list_all may_occur) parts ≡ true
     → kept_parts kept parts ≡ Some next → list_all is_kept next ≡ true
@@ -68,7 +68,7 @@ kept_stand kept [] next a b e =
 kept_stand kept (part ∷ parts) next a b e =
     let t = and_parts (list_all may_occur part) (list_all (list_all may_occur) parts) b in
     elim (with_part kept part) as (λ o. with_part kept part ≡ o → option_and_then (λ more. kept_parts more parts) o ≡ Some next
-        → list_all is_kept next ≡ true) [
+    → list_all is_kept next ≡ true) [
       | None ↦ λ is none. cc
       | Some more ↦ λ is some. kept_stand more parts next (keeps kept part more a t.0 is) t.1 some
     ] refl e
@@ -85,7 +85,7 @@ kept_again kept [] a = ap Some (sym (append-nil kept))
 kept_again kept (part ∷ parts) a =
     let e = and_parts (is_kept part) (list_all is_kept parts) a in
     ap (option_and_then (λ next. kept_parts next parts)) (with_kept kept part e.0) ∙ kept_again (kept ++ part ∷ []) parts e.1
-        ∙ ap Some (append_assoc kept (part ∷ []) parts)
+    ∙ ap Some (append_assoc kept (part ∷ []) parts)
 
 -- joined parts, cut again
 
@@ -117,7 +117,7 @@ again (part ∷ parts) name a same e =
     let kept : kept_parts [] (parts_of_name text) ≡ Some (part ∷ parts) = ap (kept_parts []) cut ∙ kept_again [] (part ∷ parts) a in
     let here : resolved text ≡ Ok name =
     ap (λ b. cond b (name_of_parts (kept_parts [] (parts_of_name text))) (Err BadName))
-        (written_parts_may_occur slash is_plain [] (part ∷ parts) refl (stand (part ∷ parts) a)) ∙ ap name_of_parts kept ∙ e in
+    (written_parts_may_occur slash is_plain [] (part ∷ parts) refl (stand (part ∷ parts) a)) ∙ ap name_of_parts kept ∙ e in
     record { itself = subst (λ bytes. resolved bytes ≡ Ok name) (sym same) here }
 
 -- what a text names is a name that names itself

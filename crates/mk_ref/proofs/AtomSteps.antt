@@ -90,7 +90,7 @@ atom_whole up_to faithful (Some (Marked mark)) text is =
     let h = opens_with text (Marked mark) is in
     subst (λ l. IfSome (atom_by up_to (Some (Marked mark)) text) (λ x. IsAtomOf l x.0 x.1)) (take-append-drop 2 text)
     (marked_whole (take 2 text) (drop 2 text) mark (up_to mark (drop 2 text)) (omega (arith, length-take 2 text, h.room))
-        (faithful mark (drop 2 text)))
+    (faithful mark (drop 2 text)))
 
 whole_joined : (mark : ℕ) (text : List ℕ) (atom : TextAtom) (rest : List ℕ) (read : Option (List TextAtom × List ℕ))
     → IfSome read (λ x. sources x.0 ++ mark ∷ x.1 ≡ rest) → source atom ++ rest ≡ text
@@ -173,7 +173,7 @@ up_to-nil mark = refl
 
 read_cons : (mark b : ℕ) (rest : List ℕ)
     → read_up_to (suc (length rest)) mark (b ∷ rest) ≡ cond (nat_eq b mark) (Some ([], rest))
-        (with_more (read_up_to (length rest) mark) (atom_by (read_up_to (length rest)) (opening_of (b ∷ rest)) (b ∷ rest)))
+    (with_more (read_up_to (length rest) mark) (atom_by (read_up_to (length rest)) (opening_of (b ∷ rest)) (b ∷ rest)))
 unfolding read_up_to
 read_cons mark b rest = refl
 
@@ -184,7 +184,7 @@ up_to-cons mark b rest =
     sym (read_any (suc (length rest)) mark (b ∷ rest) (omega arith)) ∙ read_cons mark b rest
     ∙ ap (cond (nat_eq b mark) (Some ([], rest)))
     (agree_more (read_up_to (length rest)) up_to_mark mark (b ∷ rest) up_to_faithful
-        (λ inner text near. read_any (length rest) inner text (omega arith)))
+    (λ inner text near. read_any (length rest) inner text (omega arith)))
 
 pub first_whole : (text : List ℕ) → IfSome (first_atom text) (λ x. IsAtomOf text x.0 x.1)
 unfolding first_atom
@@ -222,14 +222,14 @@ same_cut (suc bound) zero [] low high = refl
 same_cut (suc bound) zero (b ∷ rest) low high = absurd (omega arith)
 same_cut (suc bound) (suc other) text low high =
     same_on (cut_by bound) (cut_by other) text (first_atom text) (first_whole text)
-        (λ rest near. same_cut bound other rest (omega arith) (omega arith))
+    (λ rest near. same_cut bound other rest (omega arith) (omega arith))
 
 pub cut-next : (text : List ℕ) → cut text ≡ cut_on cut text (first_atom text)
 unfolding cut
 cut-next text =
     same_cut (length text) (suc (length text)) text (omega arith) (omega arith) ∙ cut_step (length text) text
     ∙ same_on (cut_by (length text)) cut text (first_atom text) (first_whole text) (λ rest near. same_cut (length text) (length rest) rest
-        (omega arith) (omega arith))
+    (omega arith) (omega arith))
 
 cut_whole : (bound : ℕ) (text : List ℕ) → sources (cut_by bound text).0 ++ (cut_by bound text).1 ≡ text
 unfolding cut_by
@@ -263,8 +263,14 @@ together up_to None (b ∷ rest) is = tt
 together up_to (Some Doubled) text is = tt
 together up_to (Some Letter) text is =
     let h = opens_with text Letter is in
-    inl (record { letter = h.front.0; is_letter = h.front.1; written_as = h.front.2; named = second_of text h.front.0
-        h.front.2; bare = refl })
+    inl (record {
+      letter = h.front.0;
+      is_letter = h.front.1;
+      written_as = h.front.2;
+      named = second_of text h.front.0
+          h.front.2;
+      bare = refl;
+    })
 together up_to (Some (Marked mark)) text is = together_marked (take 2 text) mark (up_to mark (drop 2 text))
     (opens_with text (Marked mark) is).front
 

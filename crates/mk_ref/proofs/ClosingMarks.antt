@@ -79,14 +79,14 @@ no_opening b mark rest closes =
 marked_then : (front : List ℕ) (mark : ℕ) (read : Option (List TextAtom × List ℕ)) (rest : List ℕ) → AreMarks front mark
     → IfSome read (λ x. (other : List ℕ) → up_to_mark mark (sources x.0 ++ mark ∷ other) ≡ Some (x.0, other))
     → IfSome (option_map (marked_first front mark) read) (λ x. atom_by up_to_mark (opening_of (source x.0 ++ rest))
-        (source x.0 ++ rest) ≡ Some (x.0, rest))
+    (source x.0 ++ rest) ≡ Some (x.0, rest))
 marked_then front mark None rest marks h = tt
 marked_then front mark (Some x) rest marks h = marked_stays up_to_mark front mark x.0 rest marks (h rest)
 
 module _ (close : ℕ) (rest : List ℕ) (closes : ClosesReferences close) where
   atom_then : (opening : Option Opening) (text : List ℕ) → opening_of text ≡ opening
       → IfSome (atom_by up_to_mark opening text) (λ x. atom_by up_to_mark (opening_of (source x.0 ++ close ∷ rest))
-          (source x.0 ++ close ∷ rest) ≡ Some (x.0, close ∷ rest))
+      (source x.0 ++ close ∷ rest) ≡ Some (x.0, close ∷ rest))
   atom_then None [] is = tt
   atom_then None (b ∷ more) is = ap (λ o. atom_by up_to_mark o (b ∷ close ∷ rest)) (no_opening b close rest closes)
   atom_then (Some Doubled) text is = refl
@@ -95,14 +95,14 @@ module _ (close : ℕ) (rest : List ℕ) (closes : ClosesReferences close) where
       letter_stays up_to_mark front.0 (close ∷ rest) (take 2 text) (take 1 (drop 1 text)) front.1 front.2 (second_of text front.0 front.2)
   atom_then (Some (Marked mark)) text is =
       marked_then (take 2 text) mark (up_to_mark mark (drop 2 text)) (close ∷ rest) (opens_with text (Marked mark) is).front
-          (up_to_local mark (drop 2 text))
+      (up_to_local mark (drop 2 text))
 
   first_then : (text : List ℕ) (atom : TextAtom) (behind : List ℕ) → first_atom text ≡ Some (atom, behind)
       → first_atom (source atom ++ close ∷ rest) ≡ Some (atom, close ∷ rest)
   unfolding first_atom
   first_then text atom behind is =
       subst (λ o. IfSome o (λ x. atom_by up_to_mark (opening_of (source x.0 ++ close ∷ rest)) (source x.0 ++ close ∷ rest) ≡ Some
-          (x.0, close ∷ rest))) is
+      (x.0, close ∷ rest))) is
       (atom_then (opening_of text) text refl)
 
   -- more atoms may be between it and the mark
@@ -137,7 +137,7 @@ module _ (close : ℕ) (rest : List ℕ) (closes : ClosesReferences close) where
 cut_by_first : (atom : TextAtom) (atoms : List TextAtom) (first : Option (TextAtom × List ℕ))
     → first_atom (source atom ++ sources atoms) ≡ first
     → IfSome first (λ x. IsAtomOf (source atom ++ sources atoms) x.0 x.1) → cut_on cut (source atom ++ sources atoms)
-        first ≡ (atom ∷ atoms, [])
+    first ≡ (atom ∷ atoms, [])
     → (first_atom (source atom ++ sources atoms) ≡ Some (atom, sources atoms)) × (cut (sources atoms) ≡ (atoms, []))
 cut_by_first atom atoms None at whole e = absurd (let no : [] ≡ atom ∷ atoms = ap (λ x. x.0) e in cc)
 cut_by_first atom atoms (Some x) at whole e =
@@ -146,7 +146,7 @@ cut_by_first atom atoms (Some x) at whole e =
     let others : (cut x.1).0 ≡ atoms = cc in
     let left : (cut x.1).1 ≡ [] = ap (λ x. x.1) e in
     let behind : x.1 ≡ sources atoms = append_cancel_left (source atom) x.1 (sources atoms)
-        (ap (λ atom. source atom ++ x.1) (sym same) ∙ whole.whole) in
+    (ap (λ atom. source atom ++ x.1) (sym same) ∙ whole.whole) in
     (at ∙ (λ i. Some (same i, behind i)), ap cut (sym behind) ∙ (λ i. (others i, left i)))
 
 -- the first of atoms that a text is cut into, and what is cut after it
@@ -165,7 +165,7 @@ module _ (close : ℕ) (rest : List ℕ) (closes : ClosesReferences close) where
       let here = first_before close rest closes atom (sources atoms) c.0 in
       ap (up_to_mark close) (append_assoc (source atom) (sources atoms) (close ∷ rest))
       ∙ read_more close rest closes (source atom ++ (sources atoms ++ close ∷ rest)) atom (sources atoms ++ close ∷ rest)
-          (Some (atoms, rest)) (All-head (λ atom. atom ≢ Byte close) atom atoms first) here
+      (Some (atoms, rest)) (All-head (λ atom. atom ≢ Byte close) atom atoms first) here
       (read_atoms atoms c.1 (All-tail (λ atom. atom ≢ Byte close) atom atoms first))
 
 is_read : (mark : ℕ) (text : List ℕ) (atoms : List TextAtom) (rest : List ℕ) → ClosesReferences mark → IsUpToMark mark text atoms rest

@@ -43,7 +43,7 @@ unfolding outside
 covers-outside text =
     subst (Covers (flat_map covered (atoms_of text) ++ dollars (left_of text))) (atoms-text text)
     (covers-append (flat_map covered (atoms_of text)) (sources (atoms_of text)) (dollars (left_of text)) (left_of text)
-        (covers-atoms (atoms_of text)) (covers-dollars (left_of text)))
+    (covers-atoms (atoms_of text)) (covers-dollars (left_of text)))
 
 covers-length : (plain text : List ℕ) → Covers plain text → length plain ≡ length text
 covers-length [] [] is = refl
@@ -94,7 +94,7 @@ unfolding outside
 outside-unclosed text at found unclosed is =
     ap (λ l. flat_map covered_piece l ++ dollars (drop at text)) is
     ∙ ap (λ l. l ++ dollars (drop at text)) (covered-pieces (atoms_of (take at text))
-        ∙ ap (λ x. flat_map covered x.0) (cut-front text at unclosed))
+    ∙ ap (λ x. flat_map covered x.0) (cut-front text at unclosed))
     ∙ ap (λ l. flat_map covered (atoms_of text) ++ dollars l) (sym unclosed.left)
 
 -- the next piece

@@ -65,9 +65,16 @@ written_as text at next atom low first =
 pub stands_at : (text : List ℕ) (at next : ℕ) → GoesOnAt text at (first_atom (drop at text)) next → (atom : TextAtom)
     × OccursAt text at next atom
 stands_at text at next h =
-    let found = read_of (first_atom (drop at text)) (drop next text) h.rest in
-    (found.0, record { first = found.1; written = written_as text at next found.0 (omega (arith, h.later)) found.1; later =
-        h.later; within = h.within })
+    let found = read_of (first_atom (drop at text)) (drop next text) h.rest in (
+      found.0,
+      record {
+        first = found.1;
+        written = written_as text at next found.0 (omega (arith, h.later)) found.1;
+        later =
+            h.later;
+        within = h.within;
+      },
+    )
 
 no_colon_marked : (front : List ℕ) (mark : ℕ) (read : Option (List TextAtom × List ℕ)) → IfSome (option_map (marked_first front mark) read)
     (λ x. is_colon x.0 ≡ false)
@@ -175,7 +182,7 @@ up_to-mark : (text : List ℕ) (mark at : ℕ) → at < length text → get_or t
 up_to-mark text mark at near is =
     ap (up_to_mark mark) (drop_more text at 0 near) ∙ up_to-cons mark (get_or text at 0) (drop (at + 1) text)
     ∙ ap (λ t. cond t (Some ([], drop (at + 1) text)) (with_more (up_to_mark mark) (first_atom (get_or text at 0 ∷ drop (at + 1) text))))
-        (eq-eqb (get_or text at 0) mark is)
+    (eq-eqb (get_or text at 0) mark is)
 
 read_more : (text : List ℕ) (start closing : ℕ) (colon : Option ℕ) (at next : ℕ) (atom : TextAtom)
     (h : InsideSoFar text start closing colon at)
@@ -216,7 +223,7 @@ more_after text start closing colon at next atom h near other stands =
       name = ap sources (before-found h.atoms found.0 atom found.1) ∙ h.name;
       modifiers = ap (option_map sources) (after-found h.atoms found.0 atom found.1)
           ∙ ap Some (sources_push found.0 atom ∙ ap (λ l. l ++ source atom) found.2
-              ∙ ap (λ l. slice_range text (colon + 1) at ++ l) stands.written
+          ∙ ap (λ l. slice_range text (colon + 1) at ++ l) stands.written
           ∙ range_join text (colon + 1) at next (omega (arith, h.colon_at.1)) (omega (arith, stands.later)));
       colon_at = (h.colon_at.0, omega (arith, h.colon_at.1, stands.later), h.colon_at.2);
     }

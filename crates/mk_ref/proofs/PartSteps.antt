@@ -61,25 +61,25 @@ marked_by : (up_to : Reader) (b mark : ℕ) (inside : List TextAtom) (other : Li
     → opening_after (b ∷ sources inside ++ mark ∷ other) ≡ Some (Marked mark)
     → up_to mark (sources inside ++ mark ∷ other) ≡ Some (inside, other)
     → atom_by up_to (opening_after (b ∷ sources inside ++ mark ∷ other)) (36 ∷ b ∷ sources inside ++ mark ∷ other) ≡ Some
-        (marked_reference (36 ∷ b ∷ []) inside mark, other)
+    (marked_reference (36 ∷ b ∷ []) inside mark, other)
 marked_by up_to b mark inside other is h =
     ap (λ o. atom_by up_to o (36 ∷ b ∷ sources inside ++ mark ∷ other)) is ∙ ap (option_map (marked_first (36 ∷ b ∷ []) mark)) h
 
 pub marked_stays : (up_to : Reader) (front : List ℕ) (mark : ℕ) (inside : List TextAtom) (other : List ℕ) → AreMarks front mark
     → up_to mark (sources inside ++ mark ∷ other) ≡ Some (inside, other)
     → atom_by up_to (opening_of (source (marked_reference front inside mark) ++ other))
-        (source (marked_reference front inside mark) ++ other)
+    (source (marked_reference front inside mark) ++ other)
     ≡ Some (marked_reference front inside mark, other)
 marked_stays up_to front mark inside other marks h =
     let P : ℕ → List ℕ → Type 0 = λ m f. up_to m (sources inside ++ m ∷ other) ≡ Some (inside, other)
     → atom_by up_to (opening_of (f ++ (sources inside ++ m ∷ other))) (f ++ (sources inside ++ m ∷ other)) ≡ Some
-        (marked_reference f inside m, other) in
+    (marked_reference f inside m, other) in
     let read : P mark front = elim marks [
       | inl brace ↦ subst₂ P (sym brace.1) (sym brace.0) (marked_by up_to 123 125 inside other refl)
       | inr parenthesis ↦ subst₂ P (sym parenthesis.1) (sym parenthesis.0) (marked_by up_to 40 41 inside other refl)
     ] in
     ap (λ l. atom_by up_to (opening_of l) l) (append_assoc (front ++ sources inside) (mark ∷ []) other ∙ append_assoc front (sources inside)
-        (mark ∷ other)) ∙ read h
+    (mark ∷ other)) ∙ read h
 
 marked_atom_stays : (up_to : Reader) (front : List ℕ) (mark : ℕ) (read : Option (List TextAtom × List ℕ)) → AreMarks front mark
     → IfSome read (λ x. (other : List ℕ) → up_to mark (sources x.0 ++ mark ∷ other) ≡ Some (x.0, other))
@@ -110,12 +110,12 @@ head_same (b ∷ front) rest other some = refl
 -- one more atom, if the mark doesn't come first
 read_step : (bound mark : ℕ) (text : List ℕ) (atom : TextAtom) (rest : List ℕ) → nat_eq (get_or text 0 0) mark ≡ false → 0 < length text
     → atom_by (read_up_to bound) (opening_of text) text ≡ Some (atom, rest) → read_up_to (suc bound) mark text ≡ option_map
-        (atom_before atom) (read_up_to bound mark rest)
+    (atom_before atom) (read_up_to bound mark rest)
 unfolding read_up_to
 read_step bound mark [] atom rest other some is = absurd (omega arith)
 read_step bound mark (b ∷ text) atom rest other some is =
     ap (λ t. cond t (Some ([], text)) (with_more (read_up_to bound mark) (atom_by (read_up_to bound) (opening_of (b ∷ text)) (b ∷ text))))
-        other
+    other
     ∙ ap (with_more (read_up_to bound mark)) is
 
 more_stays : (bound mark b : ℕ) (rest : List ℕ) (atom : TextAtom) (behind : List ℕ) (read : Option (List TextAtom × List ℕ))
@@ -124,14 +124,14 @@ more_stays : (bound mark b : ℕ) (rest : List ℕ) (atom : TextAtom) (behind : 
     → IfSome read (λ x. sources x.0 ++ mark ∷ x.1 ≡ behind)
     → IfSome read (λ x. (other : List ℕ) → read_up_to bound mark (sources x.0 ++ mark ∷ other) ≡ Some (x.0, other))
     → IfSome (option_map (atom_before atom) read) (λ x. (other : List ℕ)
-        → read_up_to (suc bound) mark (sources x.0 ++ mark ∷ other) ≡ Some (x.0, other))
+    → read_up_to (suc bound) mark (sources x.0 ++ mark ∷ other) ≡ Some (x.0, other))
 more_stays bound mark b rest atom behind None no_mark is stays whole h = tt
 more_stays bound mark b rest atom behind (Some x) no_mark is stays whole h = λ other.
     let after : List ℕ = sources x.0 ++ mark ∷ other in
     let first : get_or (source atom ++ after) 0 0 ≡ b = head_same (source atom) after behind is.some ∙ ap (λ l. get_or l 0 0) is.whole in
     ap (read_up_to (suc bound) mark) (append_assoc (source atom) (sources x.0) (mark ∷ other))
     ∙ read_step bound mark (source atom ++ after) atom after (ap (λ n. nat_eq n mark) first ∙ no_mark)
-        (omega (arith, is.some, length-append (source atom) after))
+    (omega (arith, is.some, length-append (source atom) after))
     (stays after (subst (λ l. StartsLike l after) whole (starts_same (sources x.0) mark x.1 other)))
     ∙ ap (option_map (atom_before atom)) (h other)
 
@@ -139,7 +139,7 @@ first_stays : (bound mark b : ℕ) (rest : List ℕ) (first : Option (TextAtom �
     → IfSome first (λ x. IsAtomOf (b ∷ rest) x.0 x.1) → IfSome first (λ x. StaysFirst (read_up_to bound) x.0 x.1)
     → IsLocal (read_up_to bound)
     → IfSome (with_more (read_up_to bound mark) first) (λ x. (other : List ℕ)
-        → read_up_to (suc bound) mark (sources x.0 ++ mark ∷ other) ≡ Some (x.0, other))
+    → read_up_to (suc bound) mark (sources x.0 ++ mark ∷ other) ≡ Some (x.0, other))
 first_stays bound mark b rest None no_mark is stays h = tt
 first_stays bound mark b rest (Some x) no_mark is stays h =
     more_stays bound mark b rest x.0 x.1 (read_up_to bound mark x.1) no_mark is stays (read_faithful bound mark x.1) (h mark x.1)
@@ -148,7 +148,7 @@ at_mark : (bound mark : ℕ) (other : List ℕ) → read_up_to (suc bound) mark 
 unfolding read_up_to
 at_mark bound mark other =
     ap (λ t. cond t (Some ([], other))
-        (with_more (read_up_to bound mark) (atom_by (read_up_to bound) (opening_of (mark ∷ other)) (mark ∷ other)))) (eq-eqb mark mark refl)
+    (with_more (read_up_to bound mark) (atom_by (read_up_to bound) (opening_of (mark ∷ other)) (mark ∷ other)))) (eq-eqb mark mark refl)
 
 read_local : (bound : ℕ) → IsLocal (read_up_to bound)
 unfolding read_up_to
@@ -169,7 +169,7 @@ local_by mark text (Some x) is = λ other.
     let after : List ℕ = sources x.0 ++ mark ∷ other in
     let bound : ℕ = length text + length after in
     let P : Option (List TextAtom × List ℕ)
-        → Type 0 = λ o. IfSome o (λ y. (more : List ℕ) → read_up_to bound mark (sources y.0 ++ mark ∷ more) ≡ Some (y.0, more)) in
+    → Type 0 = λ o. IfSome o (λ y. (more : List ℕ) → read_up_to bound mark (sources y.0 ++ mark ∷ more) ≡ Some (y.0, more)) in
     sym (read_any bound mark after (omega arith)) ∙ subst P (read_any bound mark text (omega arith) ∙ is) (read_local bound mark text) other
 
 pub up_to_local : IsLocal up_to_mark
@@ -207,7 +207,7 @@ before_first mark text None is h = tt
 before_first mark text (Some x) is h =
     let size = atom_size text x.0 x.1 is in
     before_more mark text x.0 x.1 (up_to_mark mark x.1) is (up_to_faithful mark x.1)
-        (h x.1 (omega (arith, size.some, ap length size.whole, length-append (source x.0) x.1)))
+    (h x.1 (omega (arith, size.some, ap length size.whole, length-append (source x.0) x.1)))
 
 read_before : (bound mark : ℕ) (text : List ℕ) → length text ≤ bound → IfSome (up_to_mark mark text) (λ x. ReadBefore x.0 (mark ∷ x.1))
 read_before bound mark [] low = rw (up_to-nil mark) tt
@@ -255,7 +255,7 @@ alone_cut (atom ∷ atoms) h =
     let first : first_atom (source atom ++ sources atoms) ≡ Some (atom, sources atoms) =
     subst (λ l. first_atom (source atom ++ l) ≡ Some (atom, l)) (append-nil (sources atoms)) h.0 in
     cut-next (source atom ++ sources atoms) ∙ ap (cut_on cut (source atom ++ sources atoms)) first
-        ∙ ap (atom_before atom) (alone_cut atoms h.1)
+    ∙ ap (atom_before atom) (alone_cut atoms h.1)
 
 front_by : (test : Bool) (atom : TextAtom) (atoms : List TextAtom) → (more : List TextAtom) × (atoms ≡ before_colon atoms ++ more)
     → (more : List TextAtom) × (atom ∷ atoms ≡ cond test [] (atom ∷ before_colon atoms) ++ more)
@@ -298,8 +298,11 @@ letter_whole letter = alone_whole (Byte letter ∷ []) (first_letter letter, tt)
 parts_marked : (front : List ℕ) (mark : ℕ) (read : Option (List TextAtom × List ℕ)) → IfSome read (λ x. ReadBefore x.0 (mark ∷ x.1))
     → IfSome (option_map (marked_first front mark) read) (λ x. HasWholeParts x.0)
 parts_marked front mark None h = tt
-parts_marked front mark (Some x) h = (name_whole x.0 (mark ∷ x.1) h, modifiers_whole (mark ∷ x.1) (following_colon x.0)
-    (after_read x.0 (mark ∷ x.1) h))
+parts_marked front mark (Some x) h = (
+  name_whole x.0 (mark ∷ x.1) h,
+  modifiers_whole (mark ∷ x.1) (following_colon x.0)
+      (after_read x.0 (mark ∷ x.1) h),
+)
 
 parts_whole : (opening : Option Opening) (text : List ℕ) → opening_of text ≡ opening → IfSome (atom_by up_to_mark opening text)
     (λ x. HasWholeParts x.0)

@@ -23,8 +23,11 @@ use Rattle.mk_ref.proofs.InsideSteps.{written_as}
 front_below : (opening : Opening) (front : List ℕ) → IsFront opening front → (get_or front 0 0 < 128) × (get_or front 1 0 < 128)
 front_below Doubled front is = rw is (omega arith, omega arith)
 front_below Letter front is = rw is.2 (omega arith, alphabetic-ascii is.0 is.1)
-front_below (Marked mark) front is = elim is [ inl brace ↦ rw brace.0 (omega arith, omega arith) | inr parenthesis ↦ rw parenthesis.0
-    (omega arith, omega arith) ]
+front_below (Marked mark) front is = elim is [
+  | inl brace ↦ rw brace.0 (omega arith, omega arith)
+  | inr parenthesis ↦ rw parenthesis.0
+      (omega arith, omega arith)
+]
 
 mark_below : (mark : ℕ) (front : List ℕ) → IsFront (Marked mark) front → mark < 128
 mark_below mark front is = elim is [ inl brace ↦ omega (arith, brace.1) | inr parenthesis ↦ omega (arith, parenthesis.1) ]
@@ -39,7 +42,7 @@ module _ (text : List ℕ) (at : ℕ) (opening : Opening) (is : opening_of (drop
   first_below : get_or text at 0 < 128
   first_below = let zero_on : at + 0 ≡ at = omega arith in
       subst (λ n. n < 128) (front_byte 0 (omega arith) ∙ ap (λ n. get_or text n 0) zero_on)
-          (front_below opening (take 2 (drop at text)) opened.front).0
+      (front_below opening (take 2 (drop at text)) opened.front).0
 
   second_below : get_or text (at + 1) 0 < 128
   second_below = subst (λ n. n < 128) (front_byte 1 (omega arith)) (front_below opening (take 2 (drop at text)) opened.front).1
@@ -78,7 +81,7 @@ piece_escaped_dollar text at utf8 room is =
 
 pub piece_letter : (text : List ℕ) (at : ℕ) → IsUtf8 text → at + 2 ≤ length text → opening_of (drop at text) ≡ Some Letter
     → IsPieceAt text at (v.Reference
-        (record { whole = record { start = at; end = at + 2 }; name = record { start = at + 1; end = at + 2 }; modifiers = None }))
+    (record { whole = record { start = at; end = at + 2 }; name = record { start = at + 1; end = at + 2 }; modifiers = None }))
 piece_letter text at utf8 room is =
     let cuts = may_cut text at Letter utf8 room is in
     let two : at + 2 - at ≡ 2 = omega arith in
@@ -113,8 +116,12 @@ pub record InsideAt (text : List ℕ) (start : ℕ) (colon : Option ℕ) (close 
 
 name_in : (text : List ℕ) (start : ℕ) (colon : Option ℕ) (close : ℕ) → InsideAt text start colon close → IsCharBoundary text start
     → IsSpanOf text (record { start = start; end = unwrap_or colon close })
-name_in text start None close h starts = record { ordered = h.later; starts = starts; ends = IsCharBoundary-before_ascii text
-    close h.within h.ascii }
+name_in text start None close h starts = record {
+  ordered = h.later;
+  starts = starts;
+  ends = IsCharBoundary-before_ascii text
+      close h.within h.ascii;
+}
 name_in text start (Some c) close h starts = record {
   ordered = h.colon_at.0;
   starts = starts;
@@ -136,15 +143,19 @@ marked_placed at (Some c) close = record { name_start = refl; modifiers = refl; 
 
 spans_of : (text : List ℕ) (close : ℕ) (colon : Option ℕ)
     → option_map (span_text text) (option_map (λ c. record { start = c + 1; end = close }) colon) ≡ option_map
-        (λ c. slice_range text (c + 1) close) colon
+    (λ c. slice_range text (c + 1) close) colon
 spans_of text close None = refl
 spans_of text close (Some c) = refl
 
 reference_in : (text : List ℕ) (at : ℕ) (colon : Option ℕ) (close : ℕ) → IsUtf8 text → MayCut text at → InsideAt text (at + 2) colon close
     → IsReferenceIn text (reference_at at (record { colon = colon; close = close }))
 reference_in text at colon close utf8 cuts h = record {
-  whole = record { ordered = omega (arith, h.later); starts = cuts.here; ends = IsCharBoundary-after_ascii text close
-      utf8 h.within h.ascii };
+  whole = record {
+    ordered = omega (arith, h.later);
+    starts = cuts.here;
+    ends = IsCharBoundary-after_ascii text close
+        utf8 h.within h.ascii;
+  };
   name = name_in text (at + 2) colon close h cuts.two;
   modifiers = modifiers_in text (at + 2) colon close utf8 h;
   placed = inr (marked_placed at colon close);
@@ -158,17 +169,17 @@ piece_marked text at mark inside utf8 room is h =
     let atom : TextAtom = marked_reference front h.atoms mark in
     let end : ℕ = inside.close + 1 in
     let first : first_atom (drop at text) ≡ Some (atom, drop end text) = first-marked text at mark is
-        ∙ ap (option_map (marked_first front mark)) h.read in
+    ∙ ap (option_map (marked_first front mark)) h.read in
     let written : slice_range text at end ≡ source atom = sym (written_as text at end atom (omega (arith, h.later)) first) in
     let below : get_or text inside.close 0 < 128 = subst (λ n. n < 128) (sym h.marked)
-        (mark_below mark front (opens_with (drop at text) (Marked mark) is).front) in
+    (mark_below mark front (opens_with (drop at text) (Marked mark) is).front) in
     record {
       atom = atom;
       first = first;
       alone = ap (λ l. ReferencePiece l (slice_range text (at + 2) (unwrap_or inside.colon inside.close))
           (option_map (span_text text) (option_map (λ c. record { start = c + 1; end = inside.close }) inside.colon))) written
           ∙ ap (λ l. ReferencePiece (source atom) l
-              (option_map (span_text text) (option_map (λ c. record { start = c + 1; end = inside.close }) inside.colon))) (sym h.name)
+          (option_map (span_text text) (option_map (λ c. record { start = c + 1; end = inside.close }) inside.colon))) (sym h.name)
           ∙ ap (ReferencePiece (source atom) (sources (before_colon h.atoms))) (spans_of text inside.close inside.colon ∙ sym h.modifiers);
       start = refl;
       later = omega (arith, h.later);

@@ -171,13 +171,13 @@ so_far-piece text found literal at piece h p =
       pieces = ap (λ l. map (piece_in_text text) ((found ++ before) ++ piece ∷ []) ++ pieces_of (map Byte l ++ atoms_of (drop end text)))
           (range_none text end)
           ∙ ap (λ l. l ++ rest) (map-append (piece_in_text text) (found ++ before) (piece ∷ [])
-              ∙ ap (λ l. l ++ piece_in_text text piece ∷ []) (map-append (piece_in_text text) found before))
+          ∙ ap (λ l. l ++ piece_in_text text piece ∷ []) (map-append (piece_in_text text) found before))
           ∙ append_assoc (map (piece_in_text text) found ++ map (piece_in_text text) before) (piece_in_text text piece ∷ []) rest
           ∙ append_assoc (map (piece_in_text text) found) (map (piece_in_text text) before) (piece_in_text text piece ∷ rest)
           ∙ ap (λ l. map (piece_in_text text) found ++ (l ++ piece_in_text text piece ∷ rest)) lit.pieces
           ∙ ap (λ l. map (piece_in_text text) found ++ l)
           (sym (ap (λ x. pieces_of (map Byte bytes ++ x.0)) next ∙ alone_after bytes p.atom (piece_in_text text piece)
-              (atoms_of (drop end text)) p.alone))
+          (atoms_of (drop end text)) p.alone))
           ∙ h.pieces;
       left = ap (λ x. x.1) (sym next) ∙ h.left;
       order = stand_on 0 (found ++ literal_at literal at) at (piece ∷ []) end (stand_on 0 found literal (literal_at literal at) at h.order
@@ -222,10 +222,13 @@ pub all-cut : (text : List ℕ) (found : List Piece) (literal at : ℕ) → CutS
 all-cut text found literal at h end =
     let last : at ≡ length text = omega (arith, h.within) in
     subst (λ n. AllCut text (found ++ literal_at literal n)) (sym last)
-        (all_at text found literal (subst (CutSoFar text found literal) last h))
+    (all_at text found literal (subst (CutSoFar text found literal) last h))
 
 -- a reference begins that doesn't end
 pub unclosed : (text : List ℕ) (found : List Piece) (literal at : ℕ) → CutSoFar text found literal at → at < length text
     → first_atom (drop at text) ≡ None → IsUnclosedAt text at
-unclosed text found literal at h near none = record { inside = near; left = sym h.left
-    ∙ ap (λ x. x.1) (cut-next (drop at text) ∙ ap (cut_on cut (drop at text)) none) }
+unclosed text found literal at h near none = record {
+  inside = near;
+  left = sym h.left
+      ∙ ap (λ x. x.1) (cut-next (drop at text) ∙ ap (cut_on cut (drop at text)) none);
+}

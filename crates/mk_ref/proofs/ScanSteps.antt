@@ -34,7 +34,7 @@ pub after-mark : (mark : ℕ) (marks : List ℕ) (b : ℕ) (rest : List ℕ) →
     ≡ after_marks marks rest
 after-mark mark marks b rest is =
     ap (option_and_then (λ x. after_marks marks x.1)) (up_to-cons mark b rest
-        ∙ ap (λ t. cond t (Some ([], rest)) (with_more (up_to_mark mark) (first_atom (b ∷ rest)))) is)
+    ∙ ap (λ t. cond t (Some ([], rest)) (with_more (up_to_mark mark) (first_atom (b ∷ rest)))) is)
 
 -- a text that goes on with an atom
 pub up_to-atom : (mark b : ℕ) (rest : List ℕ) → nat_eq b mark ≡ false → up_to_mark mark (b ∷ rest) ≡ with_more
@@ -50,17 +50,17 @@ first-opening text opening is = ap (λ o. atom_by up_to_mark o text) is
 
 pub after-first : (mark : ℕ) (marks : List ℕ) (b : ℕ) (rest : List ℕ) (atom : TextAtom) (behind : List ℕ)
     → nat_eq b mark ≡ false → first_atom (b ∷ rest) ≡ Some (atom, behind) → after_marks (mark ∷ marks) (b ∷ rest) ≡
-        after_marks (mark ∷ marks) behind
+    after_marks (mark ∷ marks) behind
 after-first mark marks b rest atom behind other is =
     ap (option_and_then (λ x. after_marks marks x.1)) (up_to-atom mark b rest other ∙ ap (with_more (up_to_mark mark)) is)
     ∙ after-atom marks atom (up_to_mark mark behind)
 
 pub after-open : (mark : ℕ) (marks : List ℕ) (b : ℕ) (rest : List ℕ) (inner : ℕ)
     → nat_eq b mark ≡ false → opening_of (b ∷ rest) ≡ Some (Marked inner) → after_marks (mark ∷ marks) (b ∷ rest) ≡ after_marks
-        (inner ∷ mark ∷ marks) (drop 1 rest)
+    (inner ∷ mark ∷ marks) (drop 1 rest)
 after-open mark marks b rest inner other is =
     ap (option_and_then (λ x. after_marks marks x.1)) (up_to-atom mark b rest other
-        ∙ ap (with_more (up_to_mark mark)) (first-opening (b ∷ rest) (Some (Marked inner)) is))
+    ∙ ap (with_more (up_to_mark mark)) (first-opening (b ∷ rest) (Some (Marked inner)) is))
     ∙ after-reference mark marks (take 2 (b ∷ rest)) inner (up_to_mark inner (drop 1 rest))
 
 -- The marks that are open at a place: after them, the innermost first, comes what follows the first mark to be closed from
@@ -150,7 +150,7 @@ open-two text start closing around mark at Letter two h room other is =
     open-step text start closing around mark at (at + 2) around mark h (omega arith) room
     (ap (after_marks (mark ∷ reverse around)) (from_here text at near)
     ∙ after-first mark (reverse around) (get_or text at 0) (drop (at + 1) text) (Reference (take 2 here) (take 1 (drop 1 here)) None)
-        (drop 1 (drop (at + 1) text))
+    (drop 1 (drop (at + 1) text))
     (ne_eqb (get_or text at 0) mark other) (first_here text at near (Some Letter) is)
     ∙ ap (after_marks (mark ∷ reverse around)) (two_on text at near))
 open-two text start closing around mark at (Marked inner) two h room other is = elim two [ ]
@@ -165,7 +165,7 @@ open-inner text start closing around mark at inner h room other is =
     open-step text start closing around mark at (at + 2) (around ++ mark ∷ []) inner h (omega arith) room
     (ap (after_marks (mark ∷ reverse around)) (from_here text at near)
     ∙ after-open mark (reverse around) (get_or text at 0) (drop (at + 1) text) inner (ne_eqb (get_or text at 0) mark other)
-        (opening_here text at near (Some (Marked inner)) is)
+    (opening_here text at near (Some (Marked inner)) is)
     ∙ ap (after_marks (inner ∷ mark ∷ reverse around)) (two_on text at near)
     ∙ ap (λ l. after_marks (inner ∷ l) (drop (at + 2) text)) (sym (reverse-append around (mark ∷ []))))
 

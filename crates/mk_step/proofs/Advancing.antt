@@ -46,7 +46,7 @@ module _ (files : FileMap) (makefile : List ℕ) (others : List Frame) where
   read : (file : List ℕ) (levels : ℕ) (found : Result Block ParseFault) (s : EvalState) (a : Account)
       → after (after (read_lines file levels found s a) (λ done. give (done.0, before done.1 others))) (onward files makefile)
       ≡ after (execute_read (entering_at files makefile levels)
-          (record { files = files; makefile = makefile; file = file; levels = levels }) found s a) (rest files makefile others)
+      (record { files = files; makefile = makefile; file = file; levels = levels }) found s a) (rest files makefile others)
   read file levels (Ok lines) s a = refl
   read file levels (Err fault) s a = refl
 
@@ -78,10 +78,10 @@ module _ (files : FileMap) (makefile : List ℕ) (site : Site) (block : Block) (
   then-modules : (line : ℕ) (asked : Bool) (r : Result (EvalState × Account) (FaultAt × Account))
       → after r (rest files makefile (modules_at site line asked ++ Lines site block ∷ frames))
       ≡ after (after (after r (modules_after (entering_in files makefile site) (place_at files makefile site) line asked))
-          (execute works block site.loops)) (rest files makefile frames)
+      (execute works block site.loops)) (rest files makefile frames)
   then-modules line true (Ok (s, a)) =
       sym (after-after (include_modules (entering_in files makefile site) (place_at files makefile site) line s a)
-          (execute works block site.loops) (rest files makefile frames))
+      (execute works block site.loops) (rest files makefile frames))
   then-modules line false (Ok (s, a)) = refl
   then-modules line asked (Err end) = refl
 
@@ -110,9 +110,9 @@ module _ (files : FileMap) (makefile : List ℕ) (site : Site) (block : Block) (
 
   choice-by : (first : Block) (later : Branches) (s : EvalState) (r : Result (Bool × Account) (FaultAt × Account))
       → after (after (after r (λ held. give (s, (if held then Lines site first else Later site later) ∷ []))) left_by)
-          (onward files makefile)
+      (onward files makefile)
       ≡ after (after (after r (λ held. if held then execute works first site.loops s else execute_branches works later site.loops s))
-          (execute works block site.loops)) (rest files makefile frames)
+      (execute works block site.loops)) (rest files makefile frames)
   choice-by first later s (Ok (true, a)) = sym (after-after (execute works first site.loops s a) (execute works block site.loops)
       (rest files makefile frames))
   choice-by first later s (Ok (false, a)) = sym (after-after (execute_branches works later site.loops s a) (execute works block site.loops)
@@ -122,10 +122,10 @@ module _ (files : FileMap) (makefile : List ℕ) (site : Site) (block : Block) (
   loop-by : (line : LogicalLine) (body : Block) (s : EvalState) (r : Result (List LoopWords × Account) (FaultAt × Account))
       → after (after (after r (λ iterations. give (s, Iterations site line.line body iterations ∷ []))) left_by) (onward files makefile)
       ≡ after (after (after r (λ iterations. each (iteration_of (works.begins line) (execute works body) site.loops) s iterations))
-          (execute works block site.loops)) (rest files makefile frames)
+      (execute works block site.loops)) (rest files makefile frames)
   loop-by line body s (Ok (iterations, a)) =
       sym (after-after (each (iteration_of (works.begins line) (execute works body) site.loops) s iterations a)
-          (execute works block site.loops) (rest files makefile frames))
+      (execute works block site.loops) (rest files makefile frames))
   loop-by line body s (Err end) = refl
 
   tree : (tree : Tree) (s : EvalState) (a : Account)
@@ -143,22 +143,25 @@ module _ (files : FileMap) (makefile : List ℕ) (site : Site) (frames : List Fr
   branch-by : (block : Block) (more : Branches) (s : EvalState) (r : Result (Bool × Account) (FaultAt × Account))
       → after (after r (λ held. give (s, (if held then Lines site block else Later site more) ∷ frames))) (onward files makefile)
       ≡ after (after r (λ held. if held then execute works' block site.loops s else execute_branches works' more site.loops s))
-          (rest files makefile frames)
+      (rest files makefile frames)
   branch-by block more s (Ok (true, a)) = refl
   branch-by block more s (Ok (false, a)) = refl
   branch-by block more s (Err end) = refl
 
   iteration-by : (line : ℕ) (body : Block) (iteration : LoopWords) (iterations : List LoopWords) (s : EvalState)
       (r : Result (Unit {0} × Account) (FaultAt × Account))
-      → after (after r (λ _. give (s, Lines (record site { loops = inside_iteration site.loops iteration }) body ∷ Iterations site line body
-          iterations ∷ frames))) (onward files makefile)
+      → after (after r (λ _. give (
+        s,
+        Lines (record site { loops = inside_iteration site.loops iteration }) body ∷ Iterations site line body
+            iterations ∷ frames,
+      ))) (onward files makefile)
       ≡ after (after (after r (λ _. execute works' body (inside_iteration site.loops iteration) s))
-          (λ next. each (iteration_of (works'.begins (numbered_line line)) (execute works' body) site.loops) next iterations))
-          (rest files makefile frames)
+      (λ next. each (iteration_of (works'.begins (numbered_line line)) (execute works' body) site.loops) next iterations))
+      (rest files makefile frames)
   iteration-by line body iteration iterations s (Ok (done, a)) =
       sym (after-after (execute works' body (inside_iteration site.loops iteration) s a)
-          (λ next. each (iteration_of (works'.begins (numbered_line line)) (execute works' body) site.loops) next iterations)
-          (rest files makefile frames))
+      (λ next. each (iteration_of (works'.begins (numbered_line line)) (execute works' body) site.loops) next iterations)
+      (rest files makefile frames))
   iteration-by line body iteration iterations s (Err end) = refl
 
 -- modules that are searched for
@@ -174,7 +177,7 @@ module _ (files : FileMap) (makefile : List ℕ) (site : Site) (line : ℕ) (fra
 
   words-by : (s : EvalState) (r : Result (List (List ℕ) × Account) (FaultAt × Account))
       → after (after r (λ words. give (s, Searches site line words ∷ frames))) (onward files makefile) ≡ after (after r (each including s))
-          (rest files makefile frames)
+      (rest files makefile frames)
   words-by s (Ok (words, a)) = refl
   words-by s (Err end) = refl
 
@@ -190,7 +193,7 @@ module _ (files : FileMap) (makefile : List ℕ) (site : Site) (line : ℕ) (fra
   word-by words later (Ok ((s, Some file), a)) =
       entered files makefile (Searches site line words ∷ frames) site.levels file s a
       ∙ sym (after-after (entering_at files makefile site.levels file.0 file.1 s a) (λ next. each including next words)
-          (rest files makefile frames))
+      (rest files makefile frames))
   word-by words later (Err end) = refl
 
   pub searched : (words : List (List ℕ)) → IsSearched words
@@ -211,14 +214,14 @@ module _ (files : FileMap) (makefile : List ℕ) (frames : List Frame) where
   advances (Later site (ElseBranch block)) s a = refl
   advances (Iterations site line body []) s a =
       ap (λ r. after r (rest files makefile frames))
-          (sym (each-nil (iteration_of ((works_in files makefile site).begins (numbered_line line))
-          (execute (works_in files makefile site) body) site.loops) s a))
+      (sym (each-nil (iteration_of ((works_in files makefile site).begins (numbered_line line))
+      (execute (works_in files makefile site) body) site.loops) s a))
   advances (Iterations site line body (iteration ∷ iterations)) s a =
       iteration-by files makefile site frames line body iteration iterations s
-          ((works_in files makefile site).begins (numbered_line line) a)
+      ((works_in files makefile site).begins (numbered_line line) a)
       ∙ ap (λ r. after r (rest files makefile frames))
-          (sym (each-cons (iteration_of ((works_in files makefile site).begins (numbered_line line))
-          (execute (works_in files makefile site) body) site.loops) s iteration iterations a))
+      (sym (each-cons (iteration_of ((works_in files makefile site).begins (numbered_line line))
+      (execute (works_in files makefile site) body) site.loops) s iteration iterations a))
   advances (Modules site line) s a = words-by files makefile site line frames s
       (blamed (place_at files makefile site) line (quietly (module_words s.variables)) a)
   advances (Searches site line words) s a = searched files makefile site line frames words s a

@@ -54,7 +54,7 @@ module _ (files : FileMap) (settings : Settings) (name : List ℕ) (flavors : Op
 
   evaluates : (content : Option (List ℕ)) → get files name ≡ content → (limit : ℕ) (log : Option (List Question))
       → evaluation (files, settings) name flavors (unspent_account limit log) ≡ makefile_meaning (files, settings) name flavors content
-          (record { meter = full limit; log = with_asked log (first_asked content) })
+      (record { meter = full limit; log = with_asked log (first_asked content) })
   unfolding evaluation
   evaluates content is limit log =
       ap (λ content. makefile_meaning (files, settings) name flavors content
@@ -67,20 +67,20 @@ module _ (files : FileMap) (settings : Settings) (name : List ℕ) (flavors : Op
   module _ (bytes : List ℕ) (is : get files name ≡ Some bytes) where
     reads : (limit : ℕ) (log : Option (List Question)) → evaluation (files, settings) name flavors (unspent_account limit log)
         ≡ execute_read (entering_at files name 16) (record { files = files; makefile = name; file = name; levels = 16 }) (parsed bytes)
-            (opening_state (files, settings) name flavors) (record { meter = full limit; log = with_asked log (first_asked (Some bytes)) })
+        (opening_state (files, settings) name flavors) (record { meter = full limit; log = with_asked log (first_asked (Some bytes)) })
     reads limit log =
         evaluates (Some bytes) is limit log
         ∙ file_meaning-is files name 16 name bytes (opening_state (files, settings) name flavors)
-            (record { meter = full limit; log = with_asked log (first_asked (Some bytes)) })
+        (record { meter = full limit; log = with_asked log (first_asked (Some bytes)) })
 
     stops_read : (fault : FaultAt) (found : Result Block ParseFault) (s : EvalState) (a : Account)
         → read_lines name 16 found s a ≡ Err (fault, a)
         → execute_read (entering_at files name 16) (record { files = files; makefile = name; file = name; levels = 16 })
-            found s a ≡ Err (fault, a)
+        found s a ≡ Err (fault, a)
     stops_read fault (Ok block) s a is = cc
     stops_read fault (Err error) s a is =
         ap (λ (r : Result ((EvalState × Option Frame) × Account) (FaultAt × Account)). let end : Result (EvalState × Account)
-            (FaultAt × Account) = Err (fault_in r fault, a) in end) is
+        (FaultAt × Account) = Err (fault_in r fault, a) in end) is
 
     unreadable : (fault : FaultAt) → ((s : EvalState) (a : Account) → read_lines name 16 (parsed bytes) s a ≡ Err (fault, a))
         → EndsSo (files, settings) name flavors (first_asked (Some bytes)) (Err (fault, full UNITS))
@@ -88,14 +88,14 @@ module _ (files : FileMap) (settings : Settings) (name : List ℕ) (flavors : Op
       ends = λ limit log low inside.
           let a : Account = record { meter = full limit; log = with_asked log (first_asked (Some bytes)) } in
           reads limit log ∙ stops_read fault (parsed bytes) (opening_state (files, settings) name flavors) a
-              (fails (opening_state (files, settings) name flavors) a);
+          (fails (opening_state (files, settings) name flavors) a);
       within = omega arith;
     }
 
     goes : (frame : Frame) (found : Result Block ParseFault) (s : EvalState) (a : Account)
         → read_lines name 16 found s a ≡ Ok ((s, Some frame), a)
         → execute_read (entering_at files name 16) (record { files = files; makefile = name; file = name; levels = 16 }) found s a ≡ rest
-            files name (frame ∷ []) s a
+        files name (frame ∷ []) s a
     goes frame (Ok block) s a is =
         let site : Site = record { file = name; levels = 16; loops = None } in
         let same : Lines site block ≡ frame = let e : Some (Lines site block) ≡ Some frame = ap (λ r. frame_in r None) is in cc in
@@ -104,12 +104,12 @@ module _ (files : FileMap) (settings : Settings) (name : List ℕ) (flavors : Op
 
     begun : (frame : Frame) → ((s : EvalState) (a : Account) → read_lines name 16 (parsed bytes) s a ≡ Ok ((s, Some frame), a))
         → HasCome (files, settings) name flavors (first_asked (Some bytes))
-            (record { makefile = name; frames = frame ∷ []; state = opening_state (files, settings) name flavors; meter = full UNITS })
+        (record { makefile = name; frames = frame ∷ []; state = opening_state (files, settings) name flavors; meter = full UNITS })
     begun frame gives = record {
       ends = λ limit log low inside.
           let a : Account = record { meter = full limit; log = with_asked log (first_asked (Some bytes)) } in
           reads limit log ∙ goes frame (parsed bytes) (opening_state (files, settings) name flavors) a
-              (gives (opening_state (files, settings) name flavors) a);
+          (gives (opening_state (files, settings) name flavors) a);
       limit = refl;
       within = omega arith;
     }
@@ -150,8 +150,13 @@ module _ (may : FilesFault → Type 0) (old new : FilesView) (settings : Setting
 
     pub begins : (machine : Machine) (frame : Frame) (bytes : List ℕ) → get old.files name ≡ Some bytes
         → ((s : EvalState) (a : Account) → read_lines name 16 (parsed bytes) s a ≡ Ok ((s, Some frame), a))
-        → point_of machine ≡ record { makefile = name; frames = frame ∷ []; state = opening_state (old.files, settings) name
-            flavors; meter = full UNITS }
+        → point_of machine ≡ record {
+          makefile = name;
+          frames = frame ∷ [];
+          state = opening_state (old.files, settings) name
+              flavors;
+          meter = full UNITS;
+        }
         → BeginsMachine may old new (old.files, settings) name flavors (Ok machine)
     begins machine frame bytes there gives same = (
       record {
@@ -166,7 +171,7 @@ module _ (may : FilesFault → Type 0) (old new : FilesView) (settings : Setting
 pub point-is : (makefile makefile' : List ℕ) (frames frames' : List Frame) (state state' : EvalState) (meter meter' : Meter)
     → makefile ≡ makefile' → frames ≡ frames' → state ≡ state' → meter ≡ meter'
     → (let point : Point = record { makefile = makefile; frames = frames; state = state; meter = meter } in point) ≡
-        record { makefile = makefile'; frames = frames'; state = state'; meter = meter' }
+    record { makefile = makefile'; frames = frames'; state = state'; meter = meter' }
 point-is makefile makefile' frames frames' state state' meter meter' one two three four =
     ap (λ makefile. let point : Point = record { makefile = makefile; frames = frames; state = state; meter = meter } in point) one
     ∙ ap (λ frames. let point : Point = record { makefile = makefile'; frames = frames; state = state; meter = meter } in point) two

@@ -83,7 +83,7 @@ module _ (old new : FilesView) (makefile : List ℕ) (frame : Frame) (frames : L
     ends = λ limit log low inside.
         sym (advances old.files makefile frames frame s (record { meter = limited limit m; log = log }))
         ∙ ap (λ r. after r (onward old.files makefile)) (ends-again (shared-advance old.files makefile frame frames s) m old.log
-            (Ok (next, account m' new)) is limit log low inside);
+        (Ok (next, account m' new)) is limit log low inside);
     later = later;
   }
 
@@ -93,7 +93,7 @@ module _ (old new : FilesView) (makefile : List ℕ) (frame : Frame) (frames : L
     ends = λ limit log low inside.
         sym (advances old.files makefile frames frame s (record { meter = limited limit m; log = log }))
         ∙ ap (λ r. after r (onward old.files makefile)) (ends-again (shared-advance old.files makefile frame frames s) m old.log
-            (Err (fault, account m' new)) is limit log low inside);
+        (Err (fault, account m' new)) is limit log low inside);
   }
 
 -- nothing is done
@@ -107,7 +107,7 @@ goes-nowhere files point = record {
 pub goes-free : (files : FileMap) (makefile : List ℕ) (frames next : List Frame) (s : EvalState) (m : Meter)
     → ((a : Account) → rest files makefile frames s a ≡ rest files makefile next s a)
     → GoesOn files (record { makefile = makefile; frames = frames; state = s; meter = m })
-        (record { makefile = makefile; frames = next; state = s; meter = m }) []
+    (record { makefile = makefile; frames = next; state = s; meter = m }) []
 goes-free files makefile frames next s m same = record {
   ends = λ limit log low inside. same (record { meter = limited limit m; log = log })
       ∙ ap (λ log. rest files makefile next s (record { meter = limited limit m; log = log })) (sym (with-nothing log));
@@ -122,7 +122,7 @@ goes-on files first next last asked more one two = record {
       let reached : next.meter.spent ≤ limit = omega (arith, two.later.spent, low) in
       let below : limit ≤ next.meter.limit = omega (arith, one.later.limit, inside) in
       one.ends limit log reached inside ∙ two.ends limit (with_asked log asked) low below ∙ ap (end_from_point files last limit)
-          (with-both log asked more);
+      (with-both log asked more);
   later = IsLater-on one.later two.later;
 }
 
@@ -136,7 +136,7 @@ stops-on files first next fault m asked more later one two = record {
       let below : limit ≤ next.meter.limit = omega (arith, one.later.limit, inside) in
       one.ends limit log reached inside ∙ two.ends limit (with_asked log asked) low below
       ∙ ap (λ log. let end : Result (EvalState × Account) (FaultAt × Account) = Err (fault, record { meter = limited limit m; log = log })
-          in end) (with-both log asked more);
+      in end) (with-both log asked more);
 }
 
 -- the whole evaluation has come where a part of it comes
@@ -148,7 +148,7 @@ come-on world name flavors asked more old new fits has goes = record {
       let reached : old.meter.spent ≤ limit = omega (arith, goes.later.spent, low) in
       let below : limit ≤ old.meter.limit = omega (arith, has.limit, inside) in
       has.ends limit log reached inside ∙ goes.ends limit (with_asked log asked) low below ∙ ap (end_from_point (files_in world) new limit)
-          (with-both log asked more);
+      (with-both log asked more);
   limit = goes.later.limit ∙ has.limit;
   within = omega (arith, fits, goes.later.limit, has.limit);
 }
@@ -182,7 +182,7 @@ module _ (files : FileMap) (settings : Settings) (name : List ℕ) (flavors : Op
   asks-end =
       ap (questions_asked (files, settings) name flavors) cost-end
       ∙ ap (λ (r : Result (EvalState × Account) (FaultAt × Account)). unwrap_or (left r).log [])
-          (so.ends (left end).spent (Some []) (omega arith) so.within)
+      (so.ends (left end).spent (Some []) (omega arith) so.within)
       ∙ ap (λ log. unwrap_or log []) (log-beside (Some asked) (limited_end end (left end).spent))
 
 module _ (files : FileMap) (settings : Settings) (name : List ℕ) (flavors : Option (List (List ℕ))) (asked : List Question) where
@@ -206,7 +206,7 @@ module _ (files : FileMap) (settings : Settings) (name : List ℕ) (flavors : Op
         let below : limit ≤ point.meter.limit = omega (arith, has.limit, inside) in
         has.ends limit log reached inside ∙ stops.ends limit (with_asked log asked) low below
         ∙ ap (λ log. let end : Result (EvalState × Account) (FaultAt × Account) = Err (fault, record { meter = limited limit m; log = log })
-            in end) (with-both log asked more);
+        in end) (with-both log asked more);
     within = within;
   }
 
@@ -227,9 +227,9 @@ module _ (files : FileMap) (settings : Settings) (name : List ℕ) (flavors : Op
           has.ends limit log reached inside
           ∙ left_over.is (limited limit point.meter) (with_asked log asked)
           ∙ ap (λ asked'. beside (with_asked (with_asked log asked) asked') (left_over.ends (limited limit point.meter)))
-              (left_over.same point.meter limit below low)
+          (left_over.same point.meter limit below low)
           ∙ ap (beside (with_asked (with_asked log asked) (left_over.asks point.meter)))
-              (left_over.steady.lower point.meter limit below low)
+          (left_over.steady.lower point.meter limit below low)
           ∙ lowered-is limit (with_asked (with_asked log asked) (left_over.asks point.meter)) goal_end
           ∙ ap (λ log. beside log (limited_end goal_end limit)) (with-both log asked (left_over.asks point.meter));
       within =
@@ -239,8 +239,12 @@ module _ (files : FileMap) (settings : Settings) (name : List ℕ) (flavors : Op
 
     pub cheap : point.meter.spent ≤ cost_of (means (files, settings) name flavors)
     cheap =
-        omega (arith, left_over.steady.onward point.meter, cost-end files settings name flavors
-            (asked ++ left_over.asks point.meter) goal_end so)
+        omega (
+          arith,
+          left_over.steady.onward point.meter,
+          cost-end files settings name flavors
+              (asked ++ left_over.asks point.meter) goal_end so,
+        )
 
     pub first : (more : List Question) × (questions_of files settings name flavors ≡ asked ++ more)
     first = (left_over.asks point.meter, asks-end files settings name flavors (asked ++ left_over.asks point.meter) goal_end so)

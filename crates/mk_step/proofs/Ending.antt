@@ -26,8 +26,12 @@ module _ (may : FilesFault → Type 0) (old new : FilesView) (settings : Setting
 
   pub begin-leaves : (stop : Stop FaultAt) → BeginsMachine may old new (old.files, settings) name flavors (Err stop)
       → Leaves may old new (old.files, settings) name flavors [] (stopped stop 0)
-  begin-leaves (stops.Fault fault) begins = record { more = begins.more; so = asks-end old.files settings name flavors begins.more
-      (Err (fault, full UNITS)) begins.so; noted = begins.noted }
+  begin-leaves (stops.Fault fault) begins = record {
+    more = begins.more;
+    so = asks-end old.files settings name flavors begins.more
+        (Err (fault, full UNITS)) begins.so;
+    noted = begins.noted;
+  }
   begin-leaves (stops.Store _) begins = begins
   begin-leaves (stops.Memory _) begins = begins
 
@@ -41,8 +45,12 @@ module _ (may : FilesFault → Type 0) (old new : FilesView) (settings : Setting
     -- there is more to do
     pub turn-more : AsksMore old new (GoesOn old.files start end)
         → AsksMore old new (λ more. HasCome (old.files, settings) name flavors (asked ++ more) end)
-    turn-more goes = record { more = goes.more; so = come-on (old.files, settings) name flavors asked goes.more start end fits has
-        goes.so; noted = goes.noted }
+    turn-more goes = record {
+      more = goes.more;
+      so = come-on (old.files, settings) name flavors asked goes.more start end fits has
+          goes.so;
+      noted = goes.noted;
+    }
 
     module _ (goes : AsksMore old new (GoesOn old.files start end)) (none : end.frames ≡ []) where
       so : EndsSo (old.files, settings) name flavors (asked ++ goes.more) (Ok (end.state, end.meter))
@@ -54,8 +62,12 @@ module _ (may : FilesFault → Type 0) (old new : FilesView) (settings : Setting
       turn-tells = means-end old.files settings name flavors (asked ++ goes.more) (Ok (end.state, end.meter)) so
 
       pub turn-leaves : AsksMore old new (λ more. questions_of old.files settings name flavors ≡ asked ++ more)
-      turn-leaves = record { more = goes.more; so = asks-end old.files settings name flavors (asked ++ goes.more)
-          (Ok (end.state, end.meter)) so; noted = goes.noted }
+      turn-leaves = record {
+        more = goes.more;
+        so = asks-end old.files settings name flavors (asked ++ goes.more)
+            (Ok (end.state, end.meter)) so;
+        noted = goes.noted;
+      }
 
     fails : (fault : FaultAt) (more : List Question) → StopsWith old.files start fault end.meter more
         → EndsSo (old.files, settings) name flavors (asked ++ more) (Err (fault, end.meter))
@@ -72,8 +84,12 @@ module _ (may : FilesFault → Type 0) (old new : FilesView) (settings : Setting
 
     pub stop-leaves : (units : ℕ) (stop : Stop FaultAt) → RunsOn may old new start end units (Err stop)
         → Leaves may old new (old.files, settings) name flavors asked (stopped stop end.meter.spent)
-    stop-leaves units (stops.Fault fault) runs = record { more = runs.0.more; so = asks-end old.files settings name flavors
-        (asked ++ runs.0.more) (Err (fault, end.meter)) (fails fault runs.0.more runs.0.so); noted = runs.0.noted }
+    stop-leaves units (stops.Fault fault) runs = record {
+      more = runs.0.more;
+      so = asks-end old.files settings name flavors
+          (asked ++ runs.0.more) (Err (fault, end.meter)) (fails fault runs.0.more runs.0.so);
+      noted = runs.0.noted;
+    }
     stop-leaves units (stops.Store _) runs = runs
     stop-leaves units (stops.Memory _) runs = runs
 

@@ -37,7 +37,7 @@ module _ (files : FileMap) (settings : Settings) (name : List ℕ) (flavors : Op
   costs-within =
       let cost : cost_of (means (files, settings) name flavors) ≡ (left (whole.ends (full UNITS))).spent =
       ap (λ end. cost_of (evaluated end)) (whole.is (full UNITS) None) ∙ cost-beside (with_questions None (whole.asks (full UNITS)))
-          (whole.ends (full UNITS)) in
+      (whole.ends (full UNITS)) in
       omega (arith, cost, whole.steady.within (full UNITS) (omega arith))
 
 module _ (may : FilesFault → Type 0) (old new : FilesView) (settings : Settings) (name : List ℕ) (flavors : Option (List (List ℕ))) where
@@ -84,7 +84,7 @@ module _ (may : FilesFault → Type 0) (old new : FilesView) (settings : Setting
     }
     turned-leaves (Err fault) leaves =
         let stop : Stop FaultAt = stop_of fault in LeavesAtStop-on may old middle new stop
-            (record { questions = first; in_log = begun.noted }) leaves
+        (record { questions = first; in_log = begun.noted }) leaves
 
 -- what was spent, once more was spent than at the beginning
 pub has-spent : (old units : ℕ) (result : Result Turned FilesFault) → HasSpent (old + units) result → old ≡ 0 → HasSpent units result

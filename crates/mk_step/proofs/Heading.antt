@@ -86,7 +86,7 @@ asks-first : (place : Place) (names : List (List ℕ)) (state : EvalState) (a : 
 asks-first place [] state a = omega arith
 asks-first place (name ∷ names) state a =
     asks-or a (open_if_there place state (resolved name) a) (open_first place names) (asks-if_there place a state (resolved name))
-        (asks-first place names)
+    (asks-first place names)
 
 asks-told : {F G : Type 0} (f : F → G) (a : Account) (r : Result (Opened × Account) (F × Account)) → AsksFirst a r → AsksFirst a (tell f r)
 asks-told f a (Ok end) asks = asks
@@ -123,7 +123,7 @@ searches : (place : Place) (line : ℕ) (words : List (List ℕ)) (s : EvalState
 searches place line [] s a = (refl, omega arith)
 searches place line (word ∷ words) s a =
     searched-or a words (blamed place line (open_module place s word) a) (next_module place line words) (asks-module place line s word a)
-        (searches place line words)
+    (searches place line words)
 
 -- weights of what a thing leaves
 weight-append : (first second : List Frame) → weight (first ++ second) ≡ weight first + weight second
@@ -136,9 +136,9 @@ WeighsAtMost most (Err end) = Unit {0}
 
 -- the lines of a file weigh nothing, and no account changes when a file is read
 record LeavesLines (a : Account) (frames : List Frame) (r : Result ((EvalState × Option Frame) × Account) (FaultAt × Account)) : Type 0
-    where
-  pub weighs : WeighsAtMost (weight frames) (after r (λ done. give (done.0, before done.1 frames)))
-  pub same : (end : (EvalState × Option Frame) × Account) → r ≡ Ok end → end.1 ≡ a
+  where
+    pub weighs : WeighsAtMost (weight frames) (after r (λ done. give (done.0, before done.1 frames)))
+    pub same : (end : (EvalState × Option Frame) × Account) → r ≡ Ok end → end.1 ≡ a
 
 abbrev account_in : Account → Result ((EvalState × Option Frame) × Account) (FaultAt × Account) → Account
 account_in default (Ok end) = end.1
@@ -170,11 +170,11 @@ weighs-less low high (Err end) within weighs = tt
 module _ (files : FileMap) (makefile : List ℕ) (site : Site) where
   line-by : (line : LogicalLine) (s : EvalState) (r : Result (Opened × Account) (FaultAt × Account))
       → WeighsAtMost 2 (after r (λ opened. opened_lines site.levels opened >>= λ done. give
-          (done.0, before done.1 (modules_at site line.line (asks_modules s opened.0)))))
+      (done.0, before done.1 (modules_at site line.line (asks_modules s opened.0)))))
   line-by line s (Ok (opened, a)) =
       let modules = modules_at site line.line (asks_modules s opened.0) in
       weighs-less (weight modules) 2 _ (weighs-modules site line.line (asks_modules s opened.0))
-          (leaves-opened site.levels opened a modules).weighs
+      (leaves-opened site.levels opened a modules).weighs
   line-by line s (Err end) = tt
 
   choice-by : (first : Block) (later : Branches) (s : EvalState) (r : Result (Bool × Account) (FaultAt × Account))
@@ -250,13 +250,13 @@ module _ (a : Account) (site : Site) (line : ℕ) (word : List ℕ) (left : List
 
   found-by : (r : Result ((Opened × List (List ℕ)) × Account) (FaultAt × Account)) → Searched a r
       → Heads a old (after r (λ found. opened_lines site.levels found.0 >>= λ done. give
-          (done.0, before done.1 (Searches site line found.1 ∷ frames))))
+      (done.0, before done.1 (Searches site line found.1 ∷ frames))))
   found-by (Ok (((s, None), words), b)) searched =
       let none : frame_weight (Searches site line words) ≡ 0 = ap (λ words. frame_weight (Searches site line words)) searched.0 in
       inr (inr (omega (arith, none)))
   found-by (Ok (((s, Some file), words), b)) searched =
       file-by b words searched.0 searched.1 (file_lines site.levels file s b)
-          (leaves-file site.levels file s b (Searches site line words ∷ frames))
+      (leaves-file site.levels file s b (Searches site line words ∷ frames))
   found-by (Err end) searched = tt
 
 module _ (files : FileMap) (makefile : List ℕ) (frames : List Frame) (s : EvalState) (a : Account) where
@@ -264,7 +264,7 @@ module _ (files : FileMap) (makefile : List ℕ) (frames : List Frame) (s : Eval
       → WeighsAtMost most (advance files makefile frame frames s a) → Heads a (frame ∷ frames) (advance files makefile frame frames s a)
   spending frame costs most low weighs =
       of-spends a (frame ∷ frames) (advance files makefile frame frames s) (grows-advance files makefile frame frames s costs) most low
-          (advance files makefile frame frames s a) refl weighs
+      (advance files makefile frame frames s a) refl weighs
 
   heads : (frame : Frame) → Costs frame → Heads a (frame ∷ frames) (advance files makefile frame frames s a)
   heads (Lines site EmptyBlock) costs = absurd costs
@@ -280,13 +280,13 @@ module _ (files : FileMap) (makefile : List ℕ) (frames : List Frame) (s : Eval
   heads (Iterations site line body (iteration ∷ iterations)) costs =
       spending (Iterations site line body (iteration ∷ iterations)) tt (2 + weight frames) (omega arith)
       (iteration-by files makefile site frames (record site { loops = inside_iteration site.loops iteration }) line body iterations s
-          ((works_in files makefile site).begins (numbered_line line) a))
+      ((works_in files makefile site).begins (numbered_line line) a))
   heads (Modules site line) costs = words-by a site line frames s
       (blamed (place_at files makefile site) line (quietly (module_words s.variables)) a)
   heads (Searches site line []) costs = absurd costs
   heads (Searches site line (word ∷ words)) costs =
       found-by a site line word words frames (next_module (place_at files makefile site) line (word ∷ words) s a)
-          (searches (place_at files makefile site) line (word ∷ words) s a)
+      (searches (place_at files makefile site) line (word ∷ words) s a)
 
 module _ (a a' : Account) (old : List Frame) (next : StateAndFrames) (later : IsLater a.meter a'.meter)
     (fits : a'.meter.spent ≤ a.meter.limit) where

@@ -136,15 +136,18 @@ module _ (may : FilesFault → Type 0) (first : FilesView) (start : Point) (unit
         more = way.goes.more ++ ([] ++ asks_next);
         so = subst (λ m. StopsWith first.files start fault m (way.goes.more ++ ([] ++ asks_next))) (sym same)
             (stops-on first.files start point fault m' way.goes.more ([] ++ asks_next) later.spent way.goes.so
-                (stops-on first.files point taken fault m' [] asks_next later.spent to_taken
+            (stops-on first.files point taken fault m' [] asks_next later.spent to_taken
             (subst (λ files. StopsWith files taken fault m' asks_next) same_files
-                (stops-step old new point.makefile frame others point.state point.meter m' fault at))));
+            (stops-step old new point.makefile frame others point.state point.meter m' fault at))));
         noted = noted_all (notes old new point.makefile frame others point.state point.meter m'
             (Err (fault, account m' new)) leaves at refl);
       },
       subst (λ (m : Meter). StopsInTime first.files units start m.spent) (sym same)
-          (record { onward = omega (arith, way.goes.so.later.spent, later.spent); last =
-              inr (last_at (Err (fault, account m' new)) low at) }),
+          (record {
+            onward = omega (arith, way.goes.so.later.spent, later.spent);
+            last =
+                inr (last_at (Err (fault, account m' new)) low at);
+          }),
     )
     way-stops (stops.Store refusal) end same at leaves low = LeavesAtStop-on may first old new
         (stop_at (stops.Store refusal)) asked_so_far leaves

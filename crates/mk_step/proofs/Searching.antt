@@ -32,7 +32,7 @@ module _ (place : Place) (line : ℕ) (words : List (String Global)) (s : EvalSt
       → from_word place line words s next a ≡ after (blamed place line (open_module place s (string_bytes word)) a) (later next)
   word-first next word within is =
       ap (λ left. next_module place line (map string_bytes left) s a) (drop_more words next word within
-          ∙ ap (λ one. one ∷ drop (next + 1) words) (sym is))
+      ∙ ap (λ one. one ∷ drop (next + 1) words) (sym is))
 
 -- a module looked for among files that were only asked questions since
 module _ (here : ExecutedFile) (line : ℕ) (words : List (String Global)) (s : EvalState) (first view : FilesView)
@@ -43,25 +43,25 @@ module _ (here : ExecutedFile) (line : ℕ) (words : List (String Global)) (s : 
   pub word-at : (next : ℕ) (word : String Global) (text : List ℕ) → next < length words → word ≡ get_or words next word
       → text ≡ string_bytes word
       → from_word place_first line words s next a ≡ after
-          (blamed (place_of_file here view.files) line (open_module (place_of_file here view.files) s text) a)
-          (later place_first line words s a next)
+      (blamed (place_of_file here view.files) line (open_module (place_of_file here view.files) s text) a)
+      (later place_first line words s a next)
   word-at next word text within is named =
       word-first place_first line words s a next word within is
       ∙ ap (λ text. after (blamed place_first line (open_module place_first s text) a) (later place_first line words s a next)) (sym named)
       ∙ ap (λ files. after (blamed (place_of_file here files) line (open_module (place_of_file here files) s text) a)
-          (later place_first line words s a next)) (sym (AfterQuestions-files first view asked))
+      (later place_first line words s a next)) (sym (AfterQuestions-files first view asked))
 
   -- it is there
   pub is-found : (next : ℕ) (found : Option Included) (b : Account) → true ≡ is_some found
       → after (let r : Result (Opened × Account) (FaultAt × Account) = Ok ((s, option_map included_file found), b) in r)
-          (later place_first line words s a next) ≡ Ok (((s, option_map included_file found), map string_bytes (drop (next + 1) words)), b)
+      (later place_first line words s a next) ≡ Ok (((s, option_map included_file found), map string_bytes (drop (next + 1) words)), b)
   is-found next None b some = cc
   is-found next (Some file) b some = refl
 
   -- it isn't
   pub is-missed : (next : ℕ) (found : Option Included) (b : Account) → false ≡ is_some found
       → after (let r : Result (Opened × Account) (FaultAt × Account) = Ok ((s, option_map included_file found), b) in r)
-          (later place_first line words s a next) ≡ from_word place_first line words s (next + 1) b
+      (later place_first line words s a next) ≡ from_word place_first line words s (next + 1) b
   is-missed next None b none = refl
   is-missed next (Some file) b none = cc
 

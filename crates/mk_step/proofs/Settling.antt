@@ -58,8 +58,8 @@ pub over-iterations : (site : Site) (line : ℕ) (body : Block) (iterations : Li
 over-iterations site line body iterations next others past files makefile s a =
     ap (λ left. rest files makefile (Iterations site line body left ∷ others) s a) (drop_all next iterations past)
     ∙ ap (λ r. after r (rest files makefile others))
-        (each-nil (iteration_of ((works_in files makefile site).begins (numbered_line line))
-        (execute (works_in files makefile site) body) site.loops) s a)
+    (each-nil (iteration_of ((works_in files makefile site).begins (numbered_line line))
+    (execute (works_in files makefile site) body) site.loops) s a)
 
 -- words that are left to be searched, and none
 costs-words : (site : Site) (line : ℕ) (left : List (String Global)) → 0 < length left → Costs (Searches site line (map string_bytes left))
@@ -75,4 +75,4 @@ pub over-searches : (site : Site) (line : ℕ) (words : List (String Global)) (n
 over-searches site line words next others past files makefile s a =
     ap (λ left. rest files makefile (Searches site line (map string_bytes left) ∷ others) s a) (drop_all next words past)
     ∙ ap (λ r. after r (rest files makefile others))
-        (each-nil (include_module (entering_in files makefile site) (place_at files makefile site) line) s a)
+    (each-nil (include_module (entering_in files makefile site) (place_at files makefile site) line) s a)

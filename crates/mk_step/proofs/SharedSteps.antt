@@ -35,13 +35,13 @@ module _ (files : FileMap) (makefile : List ℕ) where
       (are site) branches site.loops s
   shared-to_do (Iterations site line body iterations) s =
       over (λ s iteration. bind ((are site).begins (numbered_line line)) (λ _. shared-block files (works_in files makefile site)
-          (works_in files makefile site) (are site) body (inside_iteration site.loops iteration) s)) s iterations
+      (works_in files makefile site) (are site) body (inside_iteration site.loops iteration) s)) s iterations
   shared-to_do (Modules site line) s =
       shared-include_modules files (entering_in files makefile site) (entering_in files makefile site) (enters site.levels)
-          (place_at files makefile site) line s
+      (place_at files makefile site) line s
   shared-to_do (Searches site line words) s =
       over (shared-include_module files (entering_in files makefile site) (entering_in files makefile site) (enters site.levels)
-          (place_at files makefile site) line) s words
+      (place_at files makefile site) line) s words
 
   pub shared-rest : (frames : List Frame) (s : EvalState) → Shared files (rest files makefile frames s) (rest files makefile frames s)
   shared-rest [] s = shared-give files s
@@ -64,7 +64,7 @@ module _ (files : FileMap) (makefile : List ℕ) where
       (do_tree files makefile site tree s)
   shared-do_tree site (LineTree line) s =
       bind (shared-tell (at site.file line.line) (shared-open_line files (entering_in files makefile site) (entering_in files makefile site)
-          (enters site.levels) (place_at files makefile site) site.loops line s))
+      (enters site.levels) (place_at files makefile site) site.loops line s))
       (λ opened. bind (shared-opened_lines site.levels opened) (λ done. shared-give files _))
   shared-do_tree site (ChoiceTree line first later) s = bind ((are site).holds site.loops line s) (λ held. shared-give files _)
   shared-do_tree site (LoopTree line body) s = bind ((are site).iterations site.loops line s) (λ iterations. shared-give files _)

@@ -40,11 +40,11 @@ skips (LineTree line) block site others blank files makefile s a =
     let entering = entering_in files makefile site in
     ap (λ (kind : TextLineKind).
     let r = after (beside a.log (perform_kind s.variables site.loops line.text kind a.meter))
-        (λ done. open_request place (record s { variables = done.0 }) done.1) in
+    (λ done. open_request place (record s { variables = done.0 }) done.1) in
     after (after (after (tell (at site.file line.line) r) (λ opened. enter entering opened >>= modules_after entering place line.line
-        (asks_modules s opened.0))) (execute (works_in files makefile site) block site.loops)) (rest files makefile others)) blank
+    (asks_modules s opened.0))) (execute (works_in files makefile site) block site.loops)) (rest files makefile others)) blank
     ∙ ap (λ asked. after (after (modules_after entering place line.line asked s a)
-        (execute (works_in files makefile site) block site.loops)) (rest files makefile others)) (never-asks s)
+    (execute (works_in files makefile site) block site.loops)) (rest files makefile others)) (never-asks s)
 skips (ChoiceTree line first later) block site others blank files makefile s a = absurd blank
 skips (LoopTree line body) block site others blank files makefile s a = absurd blank
 
@@ -67,4 +67,4 @@ pub skips-all : (items : List Node) (from i : ℕ) (site : Site) (others : List 
     → DoTheSame (Lines site (block_of (drop from items)) ∷ others) (Lines site (block_of (drop (length items) items)) ∷ others)
 skips-all items from i site others past before files makefile s a =
     before files makefile s a ∙ ap (λ left. rest files makefile (Lines site (block_of left) ∷ others) s a) (drop_all i items past
-        ∙ sym (drop_all (length items) items (omega arith)))
+    ∙ sym (drop_all (length items) items (omega arith)))

@@ -123,7 +123,7 @@ grows-judge : (files : FileMap) (makefile : List ℕ) (variables : Variables) (l
     → Grows (condition_holds files makefile variables loops line)
 grows-judge files makefile variables loops line =
     grows-bind files (quietly (head_text variables loops (line_kind line))) _
-        (grows-quietly _ (grows-head_text variables loops (line_kind line)))
+    (grows-quietly _ (grows-head_text variables loops (line_kind line)))
     (λ text. shared-parts files files variables makefile (option_map (λ form. (form, text)) (form_in (line_kind line))))
 
 grows-iterations : (variables : Variables) (loops : Loops) (line : List ℕ) → GrowsPurely (iterations variables loops line)
@@ -148,7 +148,7 @@ module _ (files : FileMap) (makefile : List ℕ) (site : Site) where
   grows-tree (ChoiceTree line first later) s costs = grows-bind files _ _ (grows-holds line.line line.text s) (λ held. shared-give files _)
   grows-tree (LoopTree line body) s costs =
       grows-bind files _ _ (grows-tell (at site.file line.line) _ (grows-quietly _ (grows-iterations s.variables site.loops line.text)))
-          (λ iterations. shared-give files _)
+      (λ iterations. shared-give files _)
 
 -- the next thing that a frame does, if it costs at least a unit
 abbrev pub Spends : Frame → Type 0

@@ -19,7 +19,7 @@ pub pops : (first : List machine.Frame) (old new : List Frame) (frame : Frame) (
     → DoTheSame first (before (option_map frame_of left) (frames_of new))
 pops first old new frame left is alike settled files makefile s a =
     alike files makefile s a ∙ ap (λ frames. rest files makefile frames s a) (ap frames_of is ∙ pushed new frame)
-        ∙ settled files makefile s a
+    ∙ settled files makefile s a
 
 -- the frames after one more is pushed
 pub onto : (old new : List Frame) (frame : Frame) (seen : machine.Frame) → new ≡ old ++ frame ∷ [] → seen ≡ frame_of frame

@@ -47,12 +47,12 @@ module _ (here : ExecutedFile) (files : FileMap) (makefile : List ℕ) (site : S
       (works_in files makefile site).holds site.loops line s a
   holds-there line s a =
       ap (λ (place : Place). blamed_at place line (condition_holds place.files place.makefile s.variables (loops_of loops) line.text) a)
-          placed
+      placed
       ∙ ap (λ loops. (works_in files makefile site).holds loops line s a) looped
 
   pub opens-there : (line : LogicalLine) (s : EvalState) (a : Account)
       → blamed_at (place_of_file here files) line (open_line (place_of_file here files) (loops_of loops) line s) a ≡ blamed_at
-          (place_at files makefile site) line (open_line (place_at files makefile site) site.loops line s) a
+      (place_at files makefile site) line (open_line (place_at files makefile site) site.loops line s) a
   opens-there line s a =
       ap (λ (place : Place). blamed_at place line (open_line place (loops_of loops) line s) a) placed
       ∙ ap (λ loops. blamed_at (place_at files makefile site) line (open_line (place_at files makefile site) loops line s) a) looped
@@ -63,21 +63,27 @@ module _ (files : FileMap) (makefile : List ℕ) (site : Site) (frames : List Fr
       → item ≡ get_or items next item
       → advance files makefile (Later site (later_from items next otherwise)) frames s a
       ≡ after ((works_in files makefile site).holds site.loops (out-Branch item).head s a)
-      (λ held. give (s, (if held then Lines site (block_of (out-Branch item).body.value.items) else Later site
-          (later_from items (next + 1) otherwise)) ∷ frames))
+      (λ held. give (
+        s,
+        (if held then Lines site (block_of (out-Branch item).body.value.items) else Later site
+            (later_from items (next + 1) otherwise)) ∷ frames,
+      ))
   later-first items next item otherwise within is =
       ap (λ left. advance files makefile (Later site (branches_from (map branch_of left) (last_branch (option_map block_of otherwise))))
-          frames s a) (drop_more items next item within ∙ ap (λ x. x ∷ drop (next + 1) items) (sym is))
+      frames s a) (drop_more items next item within ∙ ap (λ x. x ∷ drop (next + 1) items) (sym is))
       ∙ ap (λ branch. advance files makefile
-          (Later site (branches_from (branch ∷ map branch_of (drop (next + 1) items)) (last_branch (option_map block_of otherwise))))
-          frames s a) (tree-branch item)
+      (Later site (branches_from (branch ∷ map branch_of (drop (next + 1) items)) (last_branch (option_map block_of otherwise))))
+      frames s a) (tree-branch item)
 
   -- the iterations from a place on
   pub iterations-first : (line : ℕ) (body : Block) (iterations : List LoopWords) (next : ℕ) → next < length iterations
       → advance files makefile (Iterations site line body (drop next iterations)) frames s a
       ≡ after ((works_in files makefile site).begins (numbered_line line) a)
-      (λ _. give (s, Lines (record site { loops = inside_iteration site.loops (get_or iterations next []) }) body ∷ Iterations site line
-          body (drop (next + 1) iterations) ∷ frames))
+      (λ _. give (
+        s,
+        Lines (record site { loops = inside_iteration site.loops (get_or iterations next []) }) body ∷ Iterations site line
+            body (drop (next + 1) iterations) ∷ frames,
+      ))
   iterations-first line body iterations next within =
       ap (λ left. advance files makefile (Iterations site line body left) frames s a) (drop_more iterations next [] within)
 
@@ -87,8 +93,11 @@ module _ (here : ExecutedFile) (files : FileMap) (makefile : List ℕ) (site : S
     (frames : List Frame) (s : EvalState) (a : Account) (slice items : List Branch) (next : ℕ) (item : Branch)
     (otherwise : Option (List Node)) (same : slice ≡ items) (within : next < length items) (is : item ≡ get_or slice next item) where
   abbrev left_by : Bool → Work Account FaultAt StateAndFrames
-  left_by held = give (s, (if held then Lines site (block_of (out-Branch item).body.value.items) else Later site
-      (later_from items (next + 1) otherwise)) ∷ frames)
+  left_by held = give (
+    s,
+    (if held then Lines site (block_of (out-Branch item).body.value.items) else Later site
+        (later_from items (next + 1) otherwise)) ∷ frames,
+  )
 
   judged : advance files makefile (Later site (later_from items next otherwise)) frames s a ≡ after
       ((works_of here files).holds (loops_of loops) (out-Branch item).head s a) left_by
@@ -104,11 +113,11 @@ module _ (here : ExecutedFile) (files : FileMap) (makefile : List ℕ) (site : S
   pub later-goes : (held : Bool) (end : Account) (frames' : List Frame) → (works_of here files).holds (loops_of loops)
       (out-Branch item).head s a ≡ Ok (held, end)
       → (if held then Lines site (block_of (out-Branch item).body.value.items) else Later site (later_from items (next + 1) otherwise)) ∷
-          frames ≡ frames'
+      frames ≡ frames'
       → advance files makefile (Later site (later_from items next otherwise)) frames s a ≡ Ok ((s, frames'), end)
   later-goes held end frames' holds left =
       judged ∙ ap (λ r. after r left_by) holds ∙ ap (λ frames. let outcome : Result (StateAndFrames × Account) (FaultAt × Account) =
-          Ok ((s, frames), end) in outcome) left
+      Ok ((s, frames), end) in outcome) left
 
 told-found : {A F G : Type 0} (f : F → G) (log : Option (List Question)) (r : Result (A × Meter) (F × Meter)) (x : A) (m : Meter)
     → tell f r ≡ Ok (x, m) → tell f (beside log r) ≡ Ok (x, record { meter = m; log = log })
@@ -126,8 +135,11 @@ module _ (here : ExecutedFile) (files : FileMap) (makefile : List ℕ) (site : S
     (frames : List Frame) (s : EvalState) (m : Meter) (log : Option (List Question)) (line : ℕ) (body : Block) (iterations : List LoopWords)
     (next : ℕ) (within : next < length iterations) where
   abbrev left_begun : Unit {0} → Work Account FaultAt StateAndFrames
-  left_begun done = give (s, Lines (record site { loops = inside_iteration site.loops (get_or iterations next []) }) body ∷ Iterations site
-      line body (drop (next + 1) iterations) ∷ frames)
+  left_begun done = give (
+    s,
+    Lines (record site { loops = inside_iteration site.loops (get_or iterations next []) }) body ∷ Iterations site
+        line body (drop (next + 1) iterations) ∷ frames,
+  )
 
   begun : advance files makefile (Iterations site line body (drop next iterations)) frames s (record { meter = m; log = log }) ≡ after
       (tell (at here.file.now line) (beside log (pay m))) left_begun
@@ -137,20 +149,20 @@ module _ (here : ExecutedFile) (files : FileMap) (makefile : List ℕ) (site : S
 
   pub iterations-stop : (stop : PureStop FaultAt) (end : Meter) → StopsPurelyAt stop end (tell (at here.file.now line) (pay m))
       → StopsPurelyAt stop (record { meter = end; log = log }) (advance files makefile (Iterations site line body (drop next iterations))
-          frames s (record { meter = m; log = log }))
+      frames s (record { meter = m; log = log }))
   iterations-stop (pure.Fault fault) end stops = begun
       ∙ ap (λ r. after r left_begun) (told-stops (at here.file.now line) log (pay m) fault end stops)
   iterations-stop (pure.Memory _) end stops = tt
 
   pub iterations-go : (end : Meter) (frames' : List Frame) → tell (at here.file.now line) (pay m) ≡ Ok (tt, end)
       → Lines (record site { loops = inside_iteration site.loops (get_or iterations next []) }) body ∷ Iterations site line body
-          (drop (next + 1) iterations) ∷ frames ≡ frames'
+      (drop (next + 1) iterations) ∷ frames ≡ frames'
       → advance files makefile (Iterations site line body (drop next iterations)) frames s (record { meter = m; log = log }) ≡ Ok
-          ((s, frames'), record { meter = end; log = log })
+      ((s, frames'), record { meter = end; log = log })
   iterations-go end frames' gives left =
       begun ∙ ap (λ r. after r left_begun) (told-found (at here.file.now line) log (pay m) tt end gives)
       ∙ ap (λ frames. let outcome : Result (StateAndFrames × Account) (FaultAt × Account) =
-          Ok ((s, frames), record { meter = end; log = log }) in outcome) left
+      Ok ((s, frames), record { meter = end; log = log }) in outcome) left
 
 -- MODULES expanded
 module _ (here : ExecutedFile) (files : FileMap) (makefile : List ℕ) (site : Site)
@@ -166,7 +178,7 @@ module _ (here : ExecutedFile) (files : FileMap) (makefile : List ℕ) (site : S
   pub modules-stop : (stop : PureStop FaultAt) (end : Meter)
       → StopsPurelyAt stop end (tell (at here.file.now line) (module_words s.variables m))
       → StopsPurelyAt stop (record { meter = end; log = log })
-          (advance files makefile (Modules site line) frames s (record { meter = m; log = log }))
+      (advance files makefile (Modules site line) frames s (record { meter = m; log = log }))
   modules-stop (pure.Fault fault) end stops = expanded
       ∙ ap (λ r. after r left_expanded) (told-stops (at here.file.now line) log (module_words s.variables m) fault end stops)
   modules-stop (pure.Memory _) end stops = tt
@@ -284,7 +296,7 @@ module _ (here : ExecutedFile) (files : FileMap) (makefile : List ℕ) (site : S
       → do_tree files makefile site (tree_of node) s a ≡ Ok ((s, frames), end)
   choice-goes held end frames holds left =
       chooses ∙ ap (λ r. after r left_chosen) holds ∙ ap (λ frames. let outcome : Result (StateAndFrames × Account) (FaultAt × Account) =
-          Ok ((s, frames), end) in outcome) left
+      Ok ((s, frames), end) in outcome) left
 
 -- a loop
 module _ (here : ExecutedFile) (files : FileMap) (makefile : List ℕ) (site : Site) (loops : List Iteration)
@@ -302,9 +314,9 @@ module _ (here : ExecutedFile) (files : FileMap) (makefile : List ℕ) (site : S
   reads =
       ap (λ tree. do_tree files makefile site tree s (record { meter = m; log = log })) (ap tree_of is ∙ loop-tree head body)
       ∙ ap (λ (place : Place). after (tell (at place.file head.line) (beside log (iterations s.variables site.loops head.text m)))
-          left_read) (sym placed)
+      left_read) (sym placed)
       ∙ ap (λ loops. after (tell (at here.file.now head.line) (beside log (iterations s.variables loops head.text m))) left_read)
-          (sym looped)
+      (sym looped)
 
   pub loop-stops : (stop : PureStop FaultAt) (end : Meter) → StopsPurelyAt stop end reading
       → StopsAt (stop_of_pure stop) (record { meter = end; log = log })

@@ -58,7 +58,7 @@ skip_done [] o gives none = refl
 skip_done (b ∷ rest) None gives none =
     ⊎_elim
     (λ t. absurd (both_ways (is_blank b)
-        (gives is_blank blank_set b rest (blank_scalar b t) (ap (λ l. l ++ rest) (sym (encode_ascii b (blank_below b t))))) t))
+    (gives is_blank blank_set b rest (blank_scalar b t) (ap (λ l. l ++ rest) (sym (encode_ascii b (blank_below b t))))) t))
     (λ f. skip_stops b rest f)
     (cases_Bool (is_blank b))
 skip_done (b ∷ rest) (Some n) gives none =

@@ -50,7 +50,7 @@ pub without_comment-escaped : (kept rest : List ℕ) → NoSign kept → without
 without_comment-escaped [] rest h = refl
 without_comment-escaped (b ∷ []) rest h =
     stays b 92 (35 ∷ rest) (first_no b [] h) (and_right (eqb b 92) false refl)
-        ∙ ap (λ l. b ∷ l) (without_comment-escaped [] rest (λ i l. absurd (omega arith)))
+    ∙ ap (λ l. b ∷ l) (without_comment-escaped [] rest (λ i l. absurd (omega arith)))
 without_comment-escaped (b ∷ c ∷ kept) rest h =
     stays b c (kept ++ 92 ∷ 35 ∷ rest) (first_no b (c ∷ kept) h) (and_right (eqb b 92) (eqb c 35) (first_no c kept (later b (c ∷ kept) h)))
     ∙ ap (λ l. b ∷ l) (without_comment-escaped (c ∷ kept) rest (later b (c ∷ kept) h))
@@ -61,7 +61,7 @@ after_utf8 s front behind e u =
     let near : length front < length s = omega (arith, ap length e, length-append front (35 ∷ behind)) in
     let sign : get_or s (length front) 0 ≡ 35 = ap (λ l. get_or l (length front) 0) e ∙ get_or_at front 35 behind 0 (length front) refl in
     let rest : drop (length front + 1) s ≡ behind = ap (drop (length front + 1)) (e ∙ sym (append_assoc front (35 ∷ []) behind))
-        ∙ drop_at (front ++ 35 ∷ []) behind (length front + 1) (omega (arith, length-append front (35 ∷ []))) in
+    ∙ drop_at (front ++ 35 ∷ []) behind (length front + 1) (omega (arith, length-append front (35 ∷ []))) in
     subst IsUtf8 rest (IsUtf8-drop s (length front + 1) u (IsCharBoundary-after_ascii s (length front) u near (omega arith)))
 
 -- a step over an escaped sign
@@ -71,6 +71,6 @@ pub escaped_step : (done rest front behind kept line : List ℕ) → done ++ wit
 escaped_step done rest front behind kept line h e none mark =
     let whole : rest ≡ kept ++ 92 ∷ 35 ∷ behind = e ∙ ap (λ l. l ++ 35 ∷ behind) mark ∙ append_assoc kept (92 ∷ []) (35 ∷ behind) in
     let clean : NoSign kept = λ i l. subst (λ x. x ≢ 35) (ap (λ l. get_or l i 0) mark ∙ get_or_append_left kept (92 ∷ []) 0 i l)
-        (none i (omega (arith, ap length mark, length-append kept (92 ∷ [])))) in
+    (none i (omega (arith, ap length mark, length-append kept (92 ∷ [])))) in
     append_assoc (done ++ kept) (35 ∷ []) (without_comment behind) ∙ append_assoc done kept (35 ∷ without_comment behind)
     ∙ ap (λ l. done ++ l) (sym (without_comment-escaped kept behind clean)) ∙ ap (λ l. done ++ without_comment l) (sym whole) ∙ h

@@ -25,7 +25,7 @@ goes_on-from_ends s false h = sym (goes_on-plain s (λ front e. true≢false (sy
 pub unmarked-marked : (front : List ℕ) → unmarked (front ++ 92 ∷ []) ≡ front
 unmarked-marked front =
     cond-true (goes_on (front ++ 92 ∷ [])) (take (length (front ++ 92 ∷ []) - 1) (front ++ 92 ∷ []))
-        (front ++ 92 ∷ []) (goes_on-marked front)
+    (front ++ 92 ∷ []) (goes_on-marked front)
     ∙ take_at front (92 ∷ []) (length (front ++ 92 ∷ []) - 1) (one_less front)
 
 pub unmarked-plain : (s : List ℕ) → goes_on s ≡ false → unmarked s ≡ s

@@ -39,7 +39,7 @@ more line text piece number [] = ap (λ t. line_at line (text ++ t) ∷ []) (app
 more line text piece number (run ∷ rest) =
     let count : number + suc (length run) + 1 ≡ number + 1 + length run + 1 = omega arith in
     ap (λ t. line_at line t ∷ lines_from (number + suc (length run) + 1) rest)
-        (sym (append_assoc text (continued piece) (flat_map continued run)))
+    (sym (append_assoc text (continued piece) (flat_map continued run)))
     ∙ ap (λ n. line_at line ((text ++ continued piece) ++ flat_map continued run) ∷ lines_from n rest) count
 
 -- a source line that begins a run and goes on
@@ -121,7 +121,7 @@ pending-open None number piece run rest h t =
     fresh-open number piece rest t ∙ ap₂ (λ line text. resumed line text (number + 1) rest) (sym h.1) (sym h.0)
 pending-open (Some before) number piece run rest h t =
     resumed-open before.line (string_bytes before.joined) number piece rest t
-        ∙ ap₂ (λ line text. resumed line text (number + 1) rest) (sym h.1) (sym h.0)
+    ∙ ap₂ (λ line text. resumed line text (number + 1) rest) (sym h.1) (sym h.0)
 
 pending-last : (o : Option Run) (number : ℕ) (piece : List ℕ) (run : Run) (rest : List (List ℕ))
     → Extends o number piece run → goes_on piece ≡ false

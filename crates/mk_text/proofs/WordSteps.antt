@@ -68,18 +68,18 @@ cut_at text start at ordered near plain blank =
 
 spans_at : (text : List ℕ) (start at : ℕ) → start ≤ at → at < length text → NoBlank text start at → is_blank (get_or text at 0) ≡ true
     → words_from text start ≡ cond (nat_lt start at) (record { start = start; end = at } ∷ words_from text (at + 1))
-        (words_from text (at + 1))
+    (words_from text (at + 1))
 spans_at text start at ordered near plain blank =
     let rest : List (List ℕ) = slice_split is_blank (drop (at + 1) text) in
     let test : Span → Bool = λ span. nat_lt span.start span.end in
     ap (λ l. filter test (places_from start l)) (cut_at text start at ordered near plain blank)
     ∙ ap (λ n. cond (nat_lt start n) (record { start = start; end = n } ∷ filter test (places_from (n + 1) rest))
-        (filter test (places_from (n + 1) rest)))
+    (filter test (places_from (n + 1) rest)))
     (part_end text start at ordered (omega arith))
 
 texts_at : (text : List ℕ) (start at : ℕ) → start ≤ at → at < length text → NoBlank text start at → is_blank (get_or text at 0) ≡ true
     → words_of (drop start text) ≡ cond (nat_lt 0 (at - start)) (part text start at ∷ words_of (drop (at + 1) text))
-        (words_of (drop (at + 1) text))
+    (words_of (drop (at + 1) text))
 unfolding words_of
 texts_at text start at ordered near plain blank =
     ap (filter (λ piece. nat_lt 0 (length piece))) (cut_at text start at ordered near plain blank)
@@ -123,12 +123,12 @@ so_far-word text found start at h utf8 near blank some =
     let span : Span = record { start = start; end = at } in
     let spans : words_from text start ≡ span ∷ words_from text (at + 1) =
     spans_at text start at h.ordered near h.unbroken blank ∙ cond-true (nat_lt start at) (span ∷ words_from text (at + 1))
-        (words_from text (at + 1)) (lt-ltb start at some) in
+    (words_from text (at + 1)) (lt-ltb start at some) in
     let apart : 0 < at - start = omega arith in
     let texts : words_of (drop start text) ≡ part text start at ∷ words_of (drop (at + 1) text) =
     texts_at text start at h.ordered near h.unbroken blank
     ∙ cond-true (nat_lt 0 (at - start)) (part text start at ∷ words_of (drop (at + 1) text)) (words_of (drop (at + 1) text))
-        (lt-ltb 0 (at - start) apart) in
+    (lt-ltb 0 (at - start) apart) in
     let ascii : get_or text at 0 < 128 = blank_below (get_or text at 0) blank in
     record {
       spans = append_assoc found (span ∷ []) (words_from text (at + 1)) ∙ ap (λ l. found ++ l) (sym spans) ∙ h.spans;
@@ -152,12 +152,12 @@ so_far-gap text found start at h utf8 near blank none =
       spans = ap (λ l. found ++ l)
           (sym (spans_at text start at h.ordered near h.unbroken blank
           ∙ cond-false (nat_lt start at) (record { start = start; end = at } ∷ words_from text (at + 1)) (words_from text (at + 1))
-              (le-ltb start at none)))
+          (le-ltb start at none)))
           ∙ h.spans;
       texts = ap (λ l. map (span_text text) found ++ l)
           (sym (texts_at text start at h.ordered near h.unbroken blank
           ∙ cond-false (nat_lt 0 (at - start)) (part text start at ∷ words_of (drop (at + 1) text)) (words_of (drop (at + 1) text))
-              (le-ltb 0 (at - start) empty)))
+          (le-ltb 0 (at - start) empty)))
           ∙ h.texts;
       within = h.within;
       starts = IsCharBoundary-after_ascii text at utf8 near ascii;
@@ -171,7 +171,7 @@ last_piece : (text : List ℕ) (start : ℕ) → start ≤ length text → NoBla
 last_piece text start le plain =
     let whole : part text start (length text) ≡ drop start text = take_rest text start in
     ap (slice_split is_blank) (sym whole) ∙ slice_split_none is_blank (part text start (length text))
-        (part_plain text start (length text) le (omega arith) plain)
+    (part_plain text start (length text) le (omega arith) plain)
 
 spans_end : (text : List ℕ) (start : ℕ) → start ≤ length text → NoBlank text start (length text)
     → words_from text start ≡ cond (nat_lt start (length text)) (record { start = start; end = length text } ∷ []) []
@@ -197,7 +197,7 @@ all-word text found start h some =
     spans_end text start h.ordered h.unbroken ∙ cond-true (nat_lt start (length text)) (span ∷ []) [] (lt-ltb start (length text) some) in
     let texts : words_of (drop start text) ≡ part text start (length text) ∷ [] =
     texts_end text start h.ordered h.unbroken ∙ cond-true (nat_lt 0 (length text - start)) (part text start (length text) ∷ []) []
-        (lt-ltb 0 (length text - start) apart) in
+    (lt-ltb 0 (length text - start) apart) in
     record {
       spans = ap (λ l. found ++ l) (sym spans) ∙ h.spans;
       texts = map-append (span_text text) found (span ∷ []) ∙ ap (λ l. map (span_text text) found ++ l) (sym texts) ∙ h.texts;
@@ -213,13 +213,13 @@ all-found text found start h none =
     record {
       spans = sym (append-nil found)
           ∙ ap (λ l. found ++ l)
-              (sym (spans_end text start h.ordered h.unbroken ∙ cond-false (nat_lt start (length text))
-              (record { start = start; end = length text } ∷ []) [] (le-ltb start (length text) none)))
+          (sym (spans_end text start h.ordered h.unbroken ∙ cond-false (nat_lt start (length text))
+          (record { start = start; end = length text } ∷ []) [] (le-ltb start (length text) none)))
           ∙ h.spans;
       texts = sym (append-nil (map (span_text text) found))
           ∙ ap (λ l. map (span_text text) found ++ l)
           (sym (texts_end text start h.ordered h.unbroken ∙ cond-false (nat_lt 0 (length text - start)) (part text start (length text) ∷ [])
-              [] (le-ltb 0 (length text - start) empty)))
+          [] (le-ltb 0 (length text - start) empty)))
           ∙ h.texts;
       within = h.within;
     }

@@ -36,7 +36,7 @@ no_number (first ∷ front) byte behind other =
     let rest = and_left (is_ascii_digit byte) (list_all is_ascii_digit behind) other in
     and_right (is_ascii_digit first) (list_all is_ascii_digit (front ++ byte ∷ behind))
     (list_all-append is_ascii_digit front (byte ∷ behind) ∙ and_right (list_all is_ascii_digit front)
-        (list_all is_ascii_digit (byte ∷ behind)) rest)
+    (list_all is_ascii_digit (byte ∷ behind)) rest)
 
 -- a text that ends in digits after another byte: its end is taken off if that byte is the letter and there are
 -- digits
@@ -63,7 +63,7 @@ pub ending_at : (letter start last : ℕ) (text front behind before : List ℕ) 
     → list_all is_ascii_digit (drop start text) ≡ true → (0 < start → is_ascii_digit (slice_index text (start - 1)) ≡ false)
     → front ≡ take start text → behind ≡ drop start text → length front ≡ start → front ≡ before ++ last ∷ []
     → ended_by letter text ≡ cond (last == letter && is_number behind) (record { before = before; number = number_written behind })
-        (whole text)
+    (whole text)
 ending_at letter start last text front behind before plain all other in_front in_after long cut =
     let joined : before ++ last ∷ behind ≡ text =
     sym (append_assoc before (last ∷ []) behind) ∙ ap (λ f. f ++ behind) (sym cut ∙ in_front)
@@ -99,7 +99,7 @@ number-none (digit ∷ digits) none = absurd (true≢false (sym none ∙ eqb-suc
 -- the end that is taken off
 pub ending_taken : (letter last : ℕ) (text behind before : List ℕ)
     → ended_by letter text ≡ cond (last == letter && is_number behind) (record { before = before; number = number_written behind })
-        (whole text)
+    (whole text)
     → last ≡ letter → is_number behind ≡ true → ended_by letter text ≡ record { before = before; number = number_written behind }
 ending_taken letter last text behind before is same some = is
     ∙ rw (and_from (last == letter) (is_number behind) (eq-eqb last letter same) some) refl
@@ -107,6 +107,6 @@ ending_taken letter last text behind before is same some = is
 -- no end is taken off
 pub ending_kept : (letter last : ℕ) (text behind before : List ℕ)
     → ended_by letter text ≡ cond (last == letter && is_number behind) (record { before = before; number = number_written behind })
-        (whole text)
+    (whole text)
     → (last == letter && is_number behind) ≡ false → ended_by letter text ≡ whole text
 ending_kept letter last text behind before is other = is ∙ rw other refl

@@ -23,12 +23,12 @@ named : (stem : List ℕ) (words : List (List ℕ)) (parts : NameParts) → name
 named stem [] parts e = cc
 named stem (version ∷ flavors) parts e =
     elim (cases_Bool (is_stem_or_flavor stem && is_version version && list_all is_stem_or_flavor flavors)) [
-  | inl h ↦
-      let here = rw h at e in
-      let is : parts ≡ record { stem = stem; version = version; flavors = flavors } = cc here in
-      ap name_text is ∙ ap (λ rest. stem ++ rest) (words_joined version flavors)
-  | inr h ↦ let here = rw h at e in cc here
-]
+      | inl h ↦
+          let here = rw h at e in
+          let is : parts ≡ record { stem = stem; version = version; flavors = flavors } = cc here in
+          ap name_text is ∙ ap (λ rest. stem ++ rest) (words_joined version flavors)
+      | inr h ↦ let here = rw h at e in cc here
+    ]
 
 -- the same, for a text that is cut or not
 split_text : (text : List ℕ) (found : Option Cut) (parts : NameParts) → at_version text ≡ found

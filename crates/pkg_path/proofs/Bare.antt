@@ -34,7 +34,7 @@ by_first directory choice choices true is =
     ∙ and_false (is_none (flavors_of (choice ∷ choices)))
 by_first directory choice choices false is =
     ap (λ b. is_none (cond (not b || list_any (λ one. not (is_subpackage one)) choices)
-        (Some (in_order (filter is_flavor (choice ∷ choices)))) None)
+    (Some (in_order (filter is_flavor (choice ∷ choices)))) None)
     && is_none (find is_subpackage (choice ∷ choices))) is
 
 by_two : (directory choice : List ℕ) (choices : List (List ℕ)) (two well : Bool)

@@ -64,7 +64,7 @@ words_of_choices (choice ∷ choices) a =
     let e = and_parts (list_all is_plain choice) (list_all (list_all is_plain) choices) a in
     let rest = words_of_choices choices e.1 in
     elim (is_flavor choice) as (λ b. is_flavor choice ≡ b
-        → list_all is_word (cond b (choice ∷ filter is_flavor choices) (filter is_flavor choices)) ≡ true) [
+    → list_all is_word (cond b (choice ∷ filter is_flavor choices) (filter is_flavor choices)) ≡ true) [
       | true ↦ λ is. and_from (is_word choice) (list_all is_word (filter is_flavor choices))
           (and_from (is_flavor choice) (list_all is_plain choice) is e.0) rest
       | false ↦ λ is. rest
@@ -72,8 +72,11 @@ words_of_choices (choice ∷ choices) a =
 
 sound_flavors_by : (some : Bool) (choices : List (List ℕ)) → list_all (list_all is_plain) choices ≡ true
     → AreSound (cond some (Some (in_order (filter is_flavor choices))) None)
-sound_flavors_by true choices a = (all_in_order is_word (filter is_flavor choices) (words_of_choices choices a), in_order-again
-    (filter is_flavor choices))
+sound_flavors_by true choices a = (
+  all_in_order is_word (filter is_flavor choices) (words_of_choices choices a),
+  in_order-again
+      (filter is_flavor choices),
+)
 sound_flavors_by false choices a = tt
 
 sound_name : (choices : List (List ℕ)) → list_all (list_all is_plain) choices ≡ true → list_any is_bare_dash choices ≡ false
@@ -106,7 +109,7 @@ sound_by false false false text path is e = absurd cc
 sound_by false false true text path is e =
     let same : value_of (elements_of text) ≡ path = cc in
     let t = and_parts (list_all may_occur text && is_directory (directory_element (elements_of text)))
-        (not (list_any is_bare_dash (choices_of (elements_of text)))) is in
+    (not (list_any is_bare_dash (choices_of (elements_of text)))) is in
     let bytes = and_parts (list_all may_occur text) (is_directory (directory_element (elements_of text))) t.0 in
     let plain = parts_are_between comma may_occur text bytes.0 in
     let choices = choices_plain (elements_of text) plain in
@@ -146,7 +149,7 @@ words_plain [] a = refl
 words_plain (word ∷ words) a =
     let e = and_parts (is_word word) (list_all is_word words) a in
     and_from (list_all is_plain word) (list_all (list_all is_plain) words) ((and_parts (is_flavor word) (list_all is_plain word) e.0).1)
-        (words_plain words e.1)
+    (words_plain words e.1)
 
 flavor_names_none : (word : List ℕ) → is_word word ≡ true → not (is_subpackage word) ≡ true
 flavor_names_none word a =
@@ -157,7 +160,7 @@ words_name_none [] a = refl
 words_name_none (word ∷ words) a =
     let e = and_parts (is_word word) (list_all is_word words) a in
     and_from (not (is_subpackage word)) (list_all (λ choice. not (is_subpackage choice)) words) (flavor_names_none word e.0)
-        (words_name_none words e.1)
+    (words_name_none words e.1)
 
 flavors_plain : (flavors : Option (List (List ℕ))) → AreSound flavors → list_all (list_all is_plain) (flavor_choices flavors) ≡ true
 flavors_plain None a = refl
@@ -180,7 +183,7 @@ found_after [] (Some name) a b = ap (λ t. cond t (Some name) None) b.0
 found_after (choice ∷ choices) name a b =
     let e = and_parts (not (is_subpackage choice)) (list_all (λ choice. not (is_subpackage choice)) choices) a in
     ap (λ t. cond t (Some choice) (find is_subpackage (choices ++ option_to_list name))) (not-true (is_subpackage choice) e.0)
-        ∙ found_after choices name e.1 b
+    ∙ found_after choices name e.1 b
 
 names_at_most_one : (name : Option (List ℕ)) → ltb 1 (length (filter is_subpackage (option_to_list name))) ≡ false
 names_at_most_one None = refl
@@ -196,7 +199,7 @@ one_name [] name a = names_at_most_one name
 one_name (choice ∷ choices) name a =
     let e = and_parts (not (is_subpackage choice)) (list_all (λ choice. not (is_subpackage choice)) choices) a in
     ap (λ t. ltb 1 (length (cond t (choice ∷ filter is_subpackage (choices ++ option_to_list name))
-        (filter is_subpackage (choices ++ option_to_list name))))) (not-true (is_subpackage choice) e.0)
+    (filter is_subpackage (choices ++ option_to_list name))))) (not-true (is_subpackage choice) e.0)
     ∙ one_name choices name e.1
 
 not_bare : (choice : List ℕ) → not (is_subpackage choice) ≡ true → is_bare_dash choice ≡ false
@@ -232,7 +235,7 @@ words_stay [] name a b = name_adds_none name b
 words_stay (word ∷ words) name a b =
     let e = and_parts (is_word word) (list_all is_word words) a in
     ap (λ t. cond t (word ∷ filter is_flavor (words ++ option_to_list name)) (filter is_flavor (words ++ option_to_list name)))
-        ((and_parts (is_flavor word) (list_all is_plain word) e.0).0)
+    ((and_parts (is_flavor word) (list_all is_plain word) e.0).0)
     ∙ ap (λ rest. word ∷ rest) (words_stay words name e.1 b)
 
 flavors_again : (flavors : Option (List (List ℕ))) (name : Option (List ℕ)) → AreSound flavors → IsSoundName name
@@ -242,7 +245,7 @@ flavors_again (Some []) name a b = ap (λ names. Some (in_order names)) (name_ad
 flavors_again (Some (flavor ∷ flavors)) name a b =
     let e = and_parts (is_word flavor) (list_all is_word flavors) a.0 in
     ap (λ t. cond (t || list_any (λ choice. not (is_subpackage choice)) (flavors ++ option_to_list name))
-        (Some (in_order (filter is_flavor (flavor ∷ flavors ++ option_to_list name)))) None) (flavor_names_none flavor e.0)
+    (Some (in_order (filter is_flavor (flavor ∷ flavors ++ option_to_list name)))) None) (flavor_names_none flavor e.0)
     ∙ ap (λ names. Some (in_order names)) (words_stay (flavor ∷ flavors) name a.0 b) ∙ ap Some a.1
 
 -- a sound value is named by its canonical text
@@ -257,29 +260,33 @@ names_itself path s =
     let none_names = flavors_name_none path.flavors s.flavors in
     let plain : list_all (list_all is_plain) (written path) ≡ true =
     list_all-append (list_all is_plain) (flavor_choices path.flavors) (option_to_list path.subpackage)
-        ∙ and_from _ _ (flavors_plain path.flavors s.flavors) (name_plain path.subpackage s.subpackage) in
+    ∙ and_from _ _ (flavors_plain path.flavors s.flavors) (name_plain path.subpackage s.subpackage) in
     let text = path.directory ++ choices_text (written path) in
     let whole : list_all (list_all is_plain) (path.directory ∷ written path) ≡ true = and_from (list_all is_plain path.directory)
-        (list_all (list_all is_plain) (written path)) s.bytes plain in
+    (list_all (list_all is_plain) (written path)) s.bytes plain in
     let cut : elements_of text ≡ path.directory ∷ written path = written_is_cut_again comma may_occur path.directory (written path) whole in
     let bytes : list_all may_occur text ≡ true = written_parts_may_occur comma may_occur path.directory (written path) refl whole in
     let well : is_well_written text ≡ true =
     ap (λ elements. (list_all may_occur text && is_directory (directory_element elements)) && not
-        (list_any is_bare_dash (choices_of elements))) cut
+    (list_any is_bare_dash (choices_of elements))) cut
     ∙ and_from (list_all may_occur text && is_directory path.directory) (not (list_any is_bare_dash (written path)))
-        (and_from (list_all may_occur text) (is_directory path.directory) bytes s.parts)
-        (ap not (none_bare (flavor_choices path.flavors) path.subpackage none_names s.subpackage)) in
+    (and_from (list_all may_occur text) (is_directory path.directory) bytes s.parts)
+    (ap not (none_bare (flavor_choices path.flavors) path.subpackage none_names s.subpackage)) in
     let value : value_of (path.directory ∷ written path) ≡ path =
-    λ i. record { directory = path.directory; flavors = flavors_again path.flavors path.subpackage s.flavors s.subpackage i; subpackage =
-        found_after (flavor_choices path.flavors) path.subpackage none_names s.subpackage i } in
+    λ i. record {
+      directory = path.directory;
+      flavors = flavors_again path.flavors path.subpackage s.flavors s.subpackage i;
+      subpackage =
+          found_after (flavor_choices path.flavors) path.subpackage none_names s.subpackage i;
+    } in
     ap path_of (canonical_is path)
     ∙ ap (λ b. cond b (Err Empty) (cond (has_two_subpackages (elements_of text)) (Err TwoSubpackages)
-        (cond (is_well_written text) (Ok (value_of (elements_of text))) (Err BadCharacter))))
-        (some_byte path.directory (choices_text (written path)) s.parts)
+    (cond (is_well_written text) (Ok (value_of (elements_of text))) (Err BadCharacter))))
+    (some_byte path.directory (choices_text (written path)) s.parts)
     ∙ ap (λ elements. cond (has_two_subpackages elements) (Err TwoSubpackages)
-        (cond (is_well_written text) (Ok (value_of elements)) (Err BadCharacter))) cut
+    (cond (is_well_written text) (Ok (value_of elements)) (Err BadCharacter))) cut
     ∙ ap (λ b. cond b (Err TwoSubpackages) (cond (is_well_written text) (Ok (value_of (path.directory ∷ written path))) (Err BadCharacter)))
-        (one_name (flavor_choices path.flavors) path.subpackage none_names)
+    (one_name (flavor_choices path.flavors) path.subpackage none_names)
     ∙ ap (λ b. cond b (Ok (value_of (path.directory ∷ written path))) (Err BadCharacter)) well
     ∙ ap Ok value
 
@@ -294,5 +301,7 @@ path_of-IsPath text path e = record { itself = canonical_names text path e }
 pub without-IsPath : (path : PathValue) → IsPath path → IsPath (without_subpackage path)
 without-IsPath path is =
     let s = sound (canonical path) path is.itself in
-    record { itself = names_itself (without_subpackage path)
-        (record { bytes = s.bytes; parts = s.parts; flavors = s.flavors; subpackage = tt }) }
+    record {
+      itself = names_itself (without_subpackage path)
+          (record { bytes = s.bytes; parts = s.parts; flavors = s.flavors; subpackage = tt });
+    }

@@ -31,7 +31,7 @@ pub of_words : (text stem behind : List ℕ) (words : List (Bor (List ℕ))) →
     → now_all words ≡ slice_split (λ byte. eqb byte dash) behind → alternative_of text ≡ alternative_of_words stem (now_all words)
 of_words text stem behind words some is named same =
     at_cut text _ some is ∙ ap (λ b. cond b (Err NoStem) (alternative_of_words stem (slice_split (λ byte. eqb byte dash) behind))) named
-        ∙ ap (alternative_of_words stem) (sym same)
+    ∙ ap (alternative_of_words stem) (sym same)
 
 pub no_words : (stem : List ℕ) (words : List (Bor (List ℕ))) → length words ≡ 0 → alternative_of_words stem (now_all words) ≡ Err NoStem
 no_words stem [] none = refl
@@ -44,8 +44,13 @@ names_now flavors named is = list_all-map has_name (λ (flavor : Bor (List ℕ))
 -- the alternative of a stem, versions and flavors
 abbrev whole : List ℕ → List ℕ → List (List ℕ) → AlternativeValue
 whole stem versions flavors =
-    record { stem = stem; comparisons = comparisons_of versions; wanted = filter (λ flavor. not (forbids flavor)) flavors; forbidden =
-        map (drop 1) (filter forbids flavors) }
+    record {
+      stem = stem;
+      comparisons = comparisons_of versions;
+      wanted = filter (λ flavor. not (forbids flavor)) flavors;
+      forbidden =
+          map (drop 1) (filter forbids flavors);
+    }
 
 -- what was read of versions: nothing, or their comparisons
 pub no_versions : {X : Type 0} (seen : X → List ComparisonValue) (stem versions : List ℕ) (flavors : List (List ℕ))
@@ -63,7 +68,7 @@ no_versions seen stem versions flavors read is e =
 pub some_versions : {X : Type 0} (seen : X → List ComparisonValue) (versions : List ℕ) (read : Option X) (comparisons : X)
     → read ≡ Some comparisons
     → option_map seen read ≡ cond (are_versions versions) (Some (comparisons_of versions)) None → (are_versions versions ≡ true)
-        × (seen comparisons ≡ comparisons_of versions)
+    × (seen comparisons ≡ comparisons_of versions)
 some_versions seen versions read comparisons is e = by (are_versions versions) refl (ap (option_map seen) (sym is) ∙ e)
   where
     by : (test : Bool) → are_versions versions ≡ test → Some (seen comparisons) ≡ cond test (Some (comparisons_of versions)) None
@@ -87,5 +92,10 @@ pub is_whole : (stem versions : List ℕ) (flavors : List (Bor (List ℕ))) (nam
 is_whole stem versions flavors named alternative is holds are at_stem at_comparisons at_wanted at_forbidden =
     ap (λ b. cond (b && list_all has_name (now_all flavors)) (Ok (whole stem versions (now_all flavors))) (Err BadVersion)) are
     ∙ ap (λ b. cond b (Ok (whole stem versions (now_all flavors))) (Err BadVersion)) (names_now flavors named is ∙ holds)
-    ∙ ap Ok (λ i. record { stem = sym at_stem i; comparisons = sym at_comparisons i; wanted =
-        sym at_wanted i; forbidden = sym at_forbidden i })
+    ∙ ap Ok (λ i. record {
+      stem = sym at_stem i;
+      comparisons = sym at_comparisons i;
+      wanted =
+          sym at_wanted i;
+      forbidden = sym at_forbidden i;
+    })

@@ -36,15 +36,17 @@ module _ (world : World) where
   Fills-on paths more old middle new first second = record {
     filled = λ path.
         in_turn (is_one_of path paths) (is_one_of path more) (Some (outcome_at world path)) (old path) (middle path) (new path)
-            (first.filled path) (second.filled path)
+        (first.filled path) (second.filled path)
         ∙ ap (λ b. if b then Some (outcome_at world path) else old path) (sym (one_of-append path paths more));
   }
 
   -- the same paths, in another list
   pub Fills-same : (paths others : List (List ℕ)) (old new : Entries) → ((path : List ℕ) → is_one_of path paths ≡ is_one_of path others)
       → Fills world paths old new → Fills world others old new
-  Fills-same paths others old new same fills = record { filled = λ path. fills.filled path
-      ∙ ap (λ b. if b then Some (outcome_at world path) else old path) (same path) }
+  Fills-same paths others old new same fills = record {
+    filled = λ path. fills.filled path
+        ∙ ap (λ b. if b then Some (outcome_at world path) else old path) (same path);
+  }
 
   -- paths that were filled in have rows that say what they lead to
   pub say-filled : (paths : List (List ℕ)) (old new : Entries) → Fills world paths old new → SayAll world new paths

@@ -15,5 +15,8 @@ counts (Some (faults.Memory _)) first middle last same more =
 -- work that went well, and then more
 pub KeepsFiles-on : (fault : Option FilesFault) (first middle last : FilesView) → KeepsFiles None first middle
     → KeepsFiles fault middle last → KeepsFiles fault first last
-KeepsFiles-on fault first middle last one more = record { files = more.files ∙ one.files; failures = counts fault first middle last
-    one.failures more.failures }
+KeepsFiles-on fault first middle last one more = record {
+  files = more.files ∙ one.files;
+  failures = counts fault first middle last
+      one.failures more.failures;
+}

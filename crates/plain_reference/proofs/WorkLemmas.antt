@@ -27,9 +27,9 @@ pub Effort-on : (world : World) (paths more : List (List ℕ)) (old new : Entrie
 Effort-on world paths more old new fills =
     ap₂ (λ evaluations units. let effort : Effort = record { evaluations = evaluations; units = units } in effort)
     (counted-both (sum_by (evaluations_at world) (lacking old paths)) (sum_by (evaluations_at world) (lacking new more))
-        ∙ ap counted (sum-on world (evaluations_at world) paths more old new fills))
+    ∙ ap counted (sum-on world (evaluations_at world) paths more old new fills))
     (counted-both (sum_by (cost_at world) (lacking old paths)) (sum_by (cost_at world) (lacking new more))
-        ∙ ap counted (sum-on world (cost_at world) paths more old new fills))
+    ∙ ap counted (sum-on world (cost_at world) paths more old new fills))
 
 counted-few : (outcome : PathOutcome) → evaluations_for outcome ≡ counted (evaluations_for outcome)
 counted-few Absent = refl
@@ -74,7 +74,7 @@ all_lacking : (entries : Entries) → ((path : List ℕ) → entries path ≡ No
 all_lacking entries none [] = refl
 all_lacking entries none (path ∷ paths) =
     ap (λ row. if is_none row then path ∷ filter (λ other. is_none (entries other)) paths else filter
-        (λ other. is_none (entries other)) paths) (none path)
+    (λ other. is_none (entries other)) paths) (none path)
     ∙ ap (λ rest. path ∷ rest) (all_lacking entries none paths)
 
 -- without rows, each path lacks its row

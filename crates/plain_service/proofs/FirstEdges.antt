@@ -27,6 +27,6 @@ pub first-own : (kinds : Kinds) (path : PathValue) (at : List ℕ) (edges : List
 first-own kinds path at edges is =
     ap (λ root. first_edges_of kinds path (filter (λ (edge : RootEdgeValue). bytes_eq edge.root root) edges)) is
     ∙ filter-within (λ (edge : RootEdgeValue). has_kind kinds edge.edge.kind && is_of path edge)
-        (λ (edge : RootEdgeValue). bytes_eq edge.root (port_path path))
+    (λ (edge : RootEdgeValue). bytes_eq edge.root (port_path path))
     (λ edge passes. (and_parts (bytes_eq edge.root (port_path path)) (keeps path.subpackage edge.edge)
-        (and_parts (has_kind kinds edge.edge.kind) (is_of path edge) passes).1).0) edges
+    (and_parts (has_kind kinds edge.edge.kind) (is_of path edge) passes).1).0) edges

@@ -58,7 +58,7 @@ settled-keeps : (world : World) (reply : ReplyMessage) (change : Option Change) 
 settled-keeps world reply None keeps = refl
 settled-keeps world reply (Some change) keeps =
     elim (overfills world change) as (λ b. profile_of (if◌then◌else◌ {A = ReplyMessage × World} b (storage_full, world)
-        (reply, changed world change)).1 ≡ profile_of world) [
+    (reply, changed world change)).1 ≡ profile_of world) [
       | true ↦ refl
       | false ↦ after_change world change keeps
     ]
@@ -91,7 +91,7 @@ module _ (world : World) where
   named-keeps Put body name = tt
   named-keeps Delete body name =
       elim (is_some (get (files_in world) name)) as (λ b. KeepsIt (if◌then◌else◌ {A = Answer} b (removed, Some (RemoveFile name))
-          (reply_alone no_file)).1) [
+      (reply_alone no_file)).1) [
         | true ↦ tt
         | false ↦ tt
       ]
@@ -104,7 +104,7 @@ module _ (world : World) where
   file-keeps : (method : Method) (body query : List ℕ) → KeepsIt (answer_to world (file_question_in method body query)).1
   file-keeps method body query =
       parameter-keeps (λ text. resolved_question method body (resolved text)) (λ text. resolved-keeps method body (resolved text))
-          (parameter (codes "name") query)
+      (parameter (codes "name") query)
 
   conditions-keep : (conditions : Option (List ConditionValue)) → KeepsIt (answer_to world (conditions_question conditions)).1
   conditions-keep (Some conditions) = tt
@@ -113,7 +113,7 @@ module _ (world : World) where
   spec-keeps : (text : List ℕ) → KeepsIt (answer_to world (spec_question text)).1
   spec-keeps text =
       elim (is_ok (spec_of text)) as (λ b. KeepsIt
-          (answer_to world (if b then OfIndex (index.Match text) else refused_question bad_spec)).1) [
+      (answer_to world (if b then OfIndex (index.Match text) else refused_question bad_spec)).1) [
         | true ↦ tt
         | false ↦ tt
       ]
@@ -165,4 +165,4 @@ answer-keeps world request other = route-keeps world request (route_of (target_p
 pub others_keep_the_profile : OthersKeepTheProfile
 others_keep_the_profile world request other =
     settled-keeps world (answer_to world (question_of request)).0 (answer_to world (question_of request)).1
-        (answer-keeps world request other)
+    (answer-keeps world request other)

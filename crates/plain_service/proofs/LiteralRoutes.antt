@@ -105,4 +105,4 @@ module _ {K : Type 0} where
       let found : seek 0 (step b rs) path ≡ row_of rs (b ∷ path) = here ∙ row_of-step b path rs in
       rw (step_wild param_token refl rs h, step_wild catch_all_token refl rs h)
       (ap (or_else (seek 0 (step b rs) path)) (no_wild b path (λ n. seek_nothing n path))
-          ∙ (or_else-none (seek 0 (step b rs) path) ∙ found))
+      ∙ (or_else-none (seek 0 (step b rs) path) ∙ found))

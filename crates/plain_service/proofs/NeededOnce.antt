@@ -152,7 +152,7 @@ no_choices (choice ∷ choices) a b = by (is_subpackage choice) refl
     by true is = absurd (false≢true (ap (λ sub. is_none (cond sub (Some choice) (find is_subpackage choices))) (sym is) ∙ b))
     by false is =
         absurd (false≢true (ap (λ sub. is_none (cond (not sub || list_any (λ choice. not (is_subpackage choice)) choices)
-            (Some (in_order (filter is_flavor (choice ∷ choices)))) None)) (sym is) ∙ a))
+        (Some (in_order (filter is_flavor (choice ∷ choices)))) None)) (sym is) ∙ a))
 
 one_element : (elements : List (List ℕ)) → 0 < length elements → choices_of elements ≡ []
     → join_with_byte 44 elements ≡ directory_element elements
@@ -172,16 +172,16 @@ bare_text text e = by (path_if_one text) refl e
         let n = and_parts (is_none path.flavors) (is_none path.subpackage) e in
         let none : choices_of (elements_of text) ≡ [] =
         no_choices (choices_of (elements_of text)) (ap (λ (path : PathValue). is_none path.flavors) r.0 ∙ n.0)
-            (ap (λ (path : PathValue). is_none path.subpackage) r.0 ∙ n.1) in
+        (ap (λ (path : PathValue). is_none path.subpackage) r.0 ∙ n.1) in
         record {
           value = path;
           read = read;
           written =
               sym (join_with_byte-slice_split 44 text)
-                  ∙ one_element (elements_of text) (omega (arith, length-slice_split (λ byte. byte == 44) text)) none
+              ∙ one_element (elements_of text) (omega (arith, length-slice_split (λ byte. byte == 44) text)) none
               ∙ ap (λ (path : PathValue). path.directory) r.0
               ∙ sym (ap (λ flavors. path.directory ++ choices_text (flavor_choices flavors) ++ choices_text
-                  (option_to_list path.subpackage)) (none_is path.flavors n.0)
+              (option_to_list path.subpackage)) (none_is path.flavors n.0)
               ∙ ap (λ sub. path.directory ++ [] ++ choices_text (option_to_list sub)) (none_is path.subpackage n.1)
               ∙ append-nil (path.directory ++ []) ∙ append-nil path.directory);
           bare = none_is path.subpackage n.1;
@@ -272,7 +272,7 @@ module _ (world : World) where
       (each-append MayBeNeeded (flat_map (named_at (outcome_at world)) found) found
       (each-flat_map MayBeNeeded (named_at (outcome_at world)) (λ directory. listed_at directory (outcome_at world directory)) found)
       (each-in_order MayBeNeeded (filter_map tree_paths.listable_directory (keys (files_in world)))
-          (each-given MayBeNeeded tree_paths.listable_directory listed_directory (keys (files_in world)))))
+      (each-given MayBeNeeded tree_paths.listable_directory listed_directory (keys (files_in world)))))
 
   all_needed : AllByRecursion MayBeNeeded (needed_paths world)
   all_needed =
@@ -317,7 +317,7 @@ module _ (world : World) (trees : IsSearchPath (search_path_of world)) where
   bare_found path pair bare e =
       let value = bare.value in
       let t = map_some (λ makefile. let pair : Pair = record { makefile = makefile; flavors = value.flavors } in pair)
-          (place world value.directory) pair e in
+      (place world value.directory) pair e in
       let f = in_tree (files_in world) value.directory t.0 (search_path_of world) all_trees t.1 in
       let stem = parts_of_name value.directory in
       subst (IsFoundFor path) t.2 (record {
@@ -325,8 +325,12 @@ module _ (world : World) (trees : IsSearchPath (search_path_of world)) where
         named = named_in f.0 f.1 value.directory t.0 f.2 (has_directory path value bare.read);
         written =
             bare.written
-            ∙ (λ i. canonical (record { directory = sym (join_with_byte-slice_split 47 value.directory) i; flavors =
-                value.flavors; subpackage = bare.bare i }))
+            ∙ (λ i. canonical (record {
+              directory = sym (join_with_byte-slice_split 47 value.directory) i;
+              flavors =
+                  value.flavors;
+              subpackage = bare.bare i;
+            }))
             ∙ sym (path_with-some stem value.flavors (omega (arith, length-slice_split (λ byte. byte == slash) value.directory)));
       })
 

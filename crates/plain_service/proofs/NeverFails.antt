@@ -76,7 +76,7 @@ set_trees-fine text None = refl
 set_path-fine : (body : List ℕ) → ((set_path body).0.status == 503) ≡ false
 set_path-fine body =
     elim (is_utf8 (trimmed body)) as (λ b.
-        ((if b then set_trees (trimmed body) (search_path (trimmed body)) else reply_alone bad_path).0.status == 503) ≡ false) [
+    ((if b then set_trees (trimmed body) (search_path (trimmed body)) else reply_alone bad_path).0.status == 503) ≡ false) [
       | true ↦ set_trees-fine (trimmed body) (search_path (trimmed body))
       | false ↦ refl
     ]
@@ -136,7 +136,7 @@ variable_of-fine world name path = variable_at-fine world name path.flavors (pla
 port_reply-fine : (path : PathValue) (found : Result (Option Recorded) Failed) → ((port_reply path found).status == 503) ≡ false
 port_reply-fine path (Ok (Some recorded)) =
     elim (has_named path.subpackage recorded.port) as (λ b. ((if b then port_shown path recorded.port else no_subpackage).status == 503) ≡
-        false) [
+    false) [
       | true ↦ refl
       | false ↦ refl
     ]
@@ -158,7 +158,7 @@ dependencies_by-fine edges question None = refl
 dependencies_by-fine edges question (Some (Err fault)) = refl
 dependencies_by-fine edges question (Some (Ok port)) =
     elim (has_named question.path.subpackage port) as (λ b.
-        ((if b then json_reply 200 (dependencies_body_of edges question) else no_subpackage).status == 503) ≡ false) [
+    ((if b then json_reply 200 (dependencies_body_of edges question) else no_subpackage).status == 503) ≡ false) [
       | true ↦ refl
       | false ↦ refl
     ]
@@ -167,7 +167,7 @@ reply_to-fine : (world : World) (direction : Direction) (question : DependencyQu
     → ((reply_to (roots world) (edges world) direction question).status == 503) ≡ false
 reply_to-fine world Dependencies question =
     dependencies_by-fine (edges world) question
-        (option_map (λ (root : RootValue). root.state) (root_named (roots world) (port_path question.path)))
+    (option_map (λ (root : RootValue). root.state) (root_named (roots world) (port_path question.path)))
 reply_to-fine world Dependents question = refl
 
 question_on-fine : (path : Result PathValue ReplyMessage) (kinds : Option Kinds) (depth : Option Depth) → RefusesFinely path
@@ -188,7 +188,7 @@ dependency_asked-fine path None depth refuses = refl
 question_of_query-fine : (query : List ℕ) → RefusesFinely (question_of_query query)
 question_of_query-fine query =
     dependency_asked-fine (path_in query) (optional (codes "kind") query) (optional (codes "depth") query)
-        (path_in-fine (parameter (codes "path") query))
+    (path_in-fine (parameter (codes "path") query))
 
 -- the questions
 
@@ -221,7 +221,7 @@ variable-fine : (query name : List ℕ)
 unfolding SettlesFinely
 variable-fine query name =
     read-fine (λ path. OfPort (Variable (record { path = path; name = name }))) (λ path. tt) (path_in query)
-        (path_in-fine (parameter (codes "path") query))
+    (path_in-fine (parameter (codes "path") query))
 
 get-fine : (query : List ℕ) (route : Route) → SettlesFinely (get_question query route)
 unfolding SettlesFinely
@@ -239,7 +239,7 @@ get-fine query Rdeps = read-fine (λ asked. OfIndex (index.Dependencies Dependen
     (question_of_query-fine query)
 get-fine query Var =
     parameter-fine (λ name. question_or_refusal (λ path. OfPort (Variable (record { path = path; name = name }))) (path_in query))
-        (variable-fine query)
+    (variable-fine query)
     (parameter (codes "name") query)
 
 query-fine : (query : List ℕ) (route : Route) (method : Method) → SettlesFinely (query_question query route method)
@@ -267,7 +267,7 @@ route-fine request (Some Deps) = query-fine (query_of_target request.target) Dep
 route-fine request (Some Faults) = query-fine (query_of_target request.target) Faults request.method
 route-fine request (Some File) =
     parameter-fine (λ text. resolved_question request.method request.body (resolved text))
-        (λ text. resolved-fine request.method request.body (resolved text))
+    (λ text. resolved-fine request.method request.body (resolved text))
     (parameter (codes "name") (query_of_target request.target))
 route-fine request (Some AllPackages) = query-fine (query_of_target request.target) AllPackages request.method
 route-fine request (Some Match) = query-fine (query_of_target request.target) Match request.method
@@ -313,7 +313,7 @@ settle_change-fine : (world : World) (reply : ReplyMessage) (change : Option Cha
 settle_change-fine world reply None fine = fine
 settle_change-fine world reply (Some change) fine =
     elim (overfills world change) as (λ b.
-        ((if◌then◌else◌ {A = ReplyMessage × World} b (storage_full, world) (reply, changed world change)).0.status == 503) ≡ false) [
+    ((if◌then◌else◌ {A = ReplyMessage × World} b (storage_full, world) (reply, changed world change)).0.status == 503) ≡ false) [
       | true ↦ refl
       | false ↦ fine
     ]

@@ -13,7 +13,7 @@ use Rattle.plain_service.proofs.LiteralRoutes.{row_of, seek_literal}
 picks : (here : Bool) (entry : List ℕ × Route) (others : Option (RouteOf Route)) (later : Option Route)
     → option_map (λ (found : RouteOf Route). found.value) others ≡ later
     → option_map (λ (found : RouteOf Route). found.value) (if here then Some (route_row entry).1 else others) ≡
-        (if here then Some entry.1 else later)
+    (if here then Some entry.1 else later)
 picks true entry others later same = refl
 picks false entry others later same = same
 

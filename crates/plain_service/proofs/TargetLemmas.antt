@@ -24,7 +24,7 @@ pub without_slash : (rest : List ℕ) → ((i : ℕ) → i < length rest → get
 without_slash rest none =
     let place : position_or_len is_slash rest ≡ length rest =
     position_or_len_is is_slash rest (length rest) 0 (omega arith) (λ k below. no_slash (get_or rest k 0) (none k below))
-        (λ h. absurd (omega arith)) in
+    (λ h. absurd (omega arith)) in
     let past : length rest ≤ length rest + 1 = omega arith in
     rw place (ap (λ behind. 47 ∷ behind) (sym (drop_all (length rest + 1) rest past)))
 

@@ -27,7 +27,7 @@ ended_members : (members : List (Bor (List ℕ) × Scalar)) → flat_map member_
 ended_members [] = refl
 ended_members (first ∷ others) =
     append_assoc (member_tokens first) (flat_map member_tokens others) (end_object ∷ [])
-        ∙ ap (λ tokens. member_tokens first ++ tokens) (ended_members others)
+    ∙ ap (λ tokens. member_tokens first ++ tokens) (ended_members others)
 
 -- what was added, and a token after it
 one_token_more : {E : Type 0} {r : Result (Unit {0}) E} {before between after : Written} {more : List Token} {token : Token}
@@ -46,7 +46,7 @@ pub object_added : {E : Type 0} {r : Result (Unit {0}) E} {before between after 
 object_added {r} {before} {after} members i all added written =
     subst (λ tokens. OnOk r (AddsTokens before after (begin_object ∷ tokens)))
     (ap (λ (part : List (Bor (List ℕ) × Scalar)). flat_map member_tokens part ++ end_object ∷ []) (take_all i members all)
-        ∙ ended_members members) (one_token_more added written)
+    ∙ ended_members members) (one_token_more added written)
 
 -- a list with the items of all
 pub all_items : {X : Type 0} {text : Written} {name : List ℕ} (item : X → Data) (xs : List X) (i : ℕ) → length xs ≤ i
@@ -66,7 +66,7 @@ ended_items : (items : List Data) → flat_map value_tokens items ++ end_array �
 ended_items [] = refl
 ended_items (value ∷ items) =
     append_assoc (value_tokens value) (flat_map value_tokens items) (end_array ∷ [])
-        ∙ ap (λ tokens. value_tokens value ++ tokens) (ended_items items)
+    ∙ ap (λ tokens. value_tokens value ++ tokens) (ended_items items)
 
 -- the text of an object with one member, a list
 pub list_text : (name : List ℕ) (items : List Data) (tokens : List Token) → tokens ≡ (begin_object ∷ key name ∷ begin_array ∷ []) ++

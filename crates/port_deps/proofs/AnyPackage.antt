@@ -28,5 +28,5 @@ any-wanted spec text before behind path none is_before is_behind empty is =
     ap (with_spec path) (sym any-spec)
     ∙ ap (option_and_then (λ path. with_spec path (spec_if_one (codes "STEM-*")))) (sym is ∙ ap path_if_one is_before)
     ∙ ap (λ versions. option_and_then (wanted_by (at_sign text).before) (spec_text None versions))
-        (sym (nil_from_length behind (eqb-true (length behind) 0 (sym empty))) ∙ is_behind)
+    (sym (nil_from_length behind (eqb-true (length behind) 0 (sym empty))) ∙ is_behind)
     ∙ ap (λ spec. option_and_then (wanted_by (at_sign text).before) (spec_text spec (at_sign text).behind)) (sym none)

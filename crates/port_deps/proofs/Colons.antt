@@ -29,7 +29,7 @@ behind-utf8 text rest is_text is =
     let first : get_or text 0 0 ≡ 58 = ap (λ bytes. get_or bytes 0 0) is in
     let some : length text ≡ suc (length rest) = ap length is in
     subst IsUtf8 (ap (drop 1) is)
-        (IsUtf8-drop text 1 is_text (IsCharBoundary-after_ascii text 0 is_text (omega (arith, some)) (omega (arith, first))))
+    (IsUtf8-drop text 1 is_text (IsCharBoundary-after_ascii text 0 is_text (omega (arith, some)) (omega (arith, first))))
 
 -- a text without a colon is its only part
 pub without_colon : (text : List ℕ) → position_or_len is_colon text ≡ length text → cut_at_colons text ≡ text ∷ []
@@ -46,7 +46,7 @@ first_stays_by : (byte : ℕ) (parts : List (List ℕ)) → length parts ≢ 0 �
 first_stays_by byte [] some = absurd (some refl)
 first_stays_by byte (first ∷ others) some =
     ap (λ empty. drop (cond empty (1 + empty_first others) 0) ((byte ∷ first) ∷ others))
-        (ne_eqb (length (byte ∷ first)) 0 (λ none. omega (arith, none)))
+    (ne_eqb (length (byte ∷ first)) 0 (λ none. omega (arith, none)))
 
 some_part : (text : List ℕ) → length (cut_at_colons text) ≢ 0
 some_part text none = let count = length-slice_split is_colon text in absurd (omega (arith, count, none))

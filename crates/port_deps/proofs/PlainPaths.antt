@@ -59,7 +59,7 @@ plain-parts item none =
 
 of_two-plain : (first second : List ℕ) (spec : Bool) → is_plain first ≡ true → is_plain second ≡ true
     → is_plain (let parts : PartsValue =
-        (if spec then record { spec = Some first; path = second } else record { spec = None; path = first }) in parts).path ≡ true
+    (if spec then record { spec = Some first; path = second } else record { spec = None; path = first }) in parts).path ≡ true
 of_two-plain first second true a b = b
 of_two-plain first second false a b = a
 
@@ -93,7 +93,7 @@ whole text = append-nil (text ++ []) ∙ append-nil text
 
 read_by : (text : List ℕ) (elements : List (List ℕ)) (empty two well : Bool) → elements ≡ text ∷ []
     → IfSome (result_ok (if empty then Err Empty else if two then Err TwoSubpackages else if well then Ok (value_of elements) else Err
-        BadCharacter)) (λ path. port_path path ≡ text)
+    BadCharacter)) (λ path. port_path path ≡ text)
 read_by text elements true two well is = tt
 read_by text elements false true well is = tt
 read_by text elements false false true is = ap (λ e. port_path (value_of e)) is ∙ whole text
@@ -123,7 +123,7 @@ none-before text (Some at) none = none-take at text none
 with_spec : (text : List ℕ) (path : Option PathValue) (spec : Option (List ℕ)) → has_comma text ≡ false
     → IfSome path (λ one. port_path one ≡ text)
     → IfSome (option_and_then
-        (λ one. option_and_then (λ given. Some (let wanted : WantedValue = record { path = one; spec = given } in wanted)) spec) path)
+    (λ one. option_and_then (λ given. Some (let wanted : WantedValue = record { path = one; spec = given } in wanted)) spec) path)
     (λ wanted. has_comma (port_path wanted.path) ≡ false)
 with_spec text None spec none is = tt
 with_spec text (Some path) None none is = tt
@@ -140,7 +140,7 @@ in_parts None plain = tt
 in_parts (Some parts) plain =
     let cut = at_sign parts.path in
     at_spec cut.before (spec_text parts.spec cut.behind)
-        (none-before parts.path (position is_sign parts.path) (none-plain parts.path plain))
+    (none-before parts.path (position is_sign parts.path) (none-plain parts.path plain))
 
 pub plain-item : (item : List ℕ) → has_comma item ≡ false → NamesPlainPath item
 plain-item item none = in_parts (named_parts (parts_of_item item)) (named-plain (parts_of_item item) (plain-parts item none))

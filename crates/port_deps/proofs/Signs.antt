@@ -10,7 +10,7 @@ is_ascii : (byte : ℕ) → is_sign byte ≡ true → byte < 128
 is_ascii byte is =
     ⊎_elim
     (λ front. ⊎_elim (λ e. subst (λ b. b < 128) (sym (eqb-true byte 60 e)) (lit< tt))
-        (λ e. subst (λ b. b < 128) (sym (eqb-true byte 62 e)) (lit< tt)) (or_cases (byte == 60) (byte == 62) front))
+    (λ e. subst (λ b. b < 128) (sym (eqb-true byte 62 e)) (lit< tt)) (or_cases (byte == 60) (byte == 62) front))
     (λ e. subst (λ b. b < 128) (sym (eqb-true byte 61 e)) (lit< tt))
     (or_cases (byte == 60 || byte == 62) (byte == 61) is)
 

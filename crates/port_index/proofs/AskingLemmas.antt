@@ -35,5 +35,5 @@ pub alone-contains : (names : BTreeSet (String Global)) (only : String Global) �
     → contains_text names name ≡ bytes_eq name (string_bytes only)
 alone-contains names only one first name =
     ap (list_any (λ (other : String Global). is_eq (slice_cmp nat_cmp name (string_bytes other))))
-        (one_of_these (keys names) only one first)
+    (one_of_these (keys names) only one first)
     ∙ or_none (is_eq (slice_cmp nat_cmp name (string_bytes only))) ∙ is_eq-slice_cmp name (string_bytes only)

@@ -36,9 +36,9 @@ use Rattle.port_index.proofs.PlaceLemmas.{ends-so, with_slashes-end}
 after_next : (byte : ℕ) (more : List ℕ) → is_slash byte ≡ false → after_slash (byte ∷ more) ≡ after_slash more
 after_next byte more none =
     ap (λ b. cond (b || list_any is_slash more) (Some (drop (cond (not b) (1 + position_or_len is_slash more) 0 + 1) (byte ∷ more))) None)
-        none
+    none
     ∙ ap (λ n. cond (list_any is_slash more) (Some (drop n (byte ∷ more))) None) (let same : 1 + position_or_len is_slash more + 1 ≡ suc
-        (position_or_len is_slash more + 1) = omega arith in same)
+    (position_or_len is_slash more + 1) = omega arith in same)
 
 apart_by : (mark rest : Bool) → (mark || rest) ≡ false → (mark ≡ false) × (rest ≡ false)
 apart_by true rest none = absurd (false≢true (sym none))
@@ -63,10 +63,10 @@ named-below : (part : List ℕ) (stem : List (List ℕ)) → list_any is_slash p
 unfolding listable_directory
 named-below part stem none =
     ap (λ name. option_and_then if_directory
-        (option_map directory_below (option_and_then after_slash (without_suffix (codes "/Makefile") name))))
-        (with_slashes-end (part ∷ stem))
+    (option_map directory_below (option_and_then after_slash (without_suffix (codes "/Makefile") name))))
+    (with_slashes-end (part ∷ stem))
     ∙ ap (λ text. option_and_then if_directory (option_map directory_below (option_and_then after_slash text)))
-        (without-own (with_slashes (part ∷ stem)))
+    (without-own (with_slashes (part ∷ stem)))
 
 none_between : (mark plain : Bool) → (plain && not mark) ≡ true → mark ≡ false
 none_between true true e = absurd (false≢true e)
@@ -90,7 +90,7 @@ with_slashes-some (part ∷ parts) some = with_slashes-cut part parts
 with_slashes-parts : (directory : List ℕ) → with_slashes (parts_of_name directory) ≡ slash ∷ directory
 with_slashes-parts directory =
     with_slashes-some (parts_of_name directory) (omega (arith, length-slice_split (λ byte. byte == slash) directory))
-        ∙ ap (λ text. slash ∷ text) (join_with_byte-slice_split 47 directory)
+    ∙ ap (λ text. slash ∷ text) (join_with_byte-slice_split 47 directory)
 
 module _ (stem : List (List ℕ)) (name : List ℕ) (named : IsNamedBy stem name) where
   apart : list_any is_slash named.part ≡ false

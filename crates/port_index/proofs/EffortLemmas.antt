@@ -55,4 +55,4 @@ pub in_order-same : (paths others : List (List ℕ)) → ((path : List ℕ) → 
 in_order-same paths others same =
     same_in_order (in_order paths) (in_order others) (in_order-sorted paths) (in_order-sorted others)
     (λ path. among-in_order (eq_by_cmp by_bytes path) paths ∙ among_is path paths ∙ same path ∙ sym (among_is path others)
-        ∙ sym (among-in_order (eq_by_cmp by_bytes path) others))
+    ∙ sym (among-in_order (eq_by_cmp by_bytes path) others))

@@ -27,7 +27,7 @@ pub one_of-append : (path : List ℕ) (paths more : List (List ℕ))
 one_of-append path [] more = refl
 one_of-append path (first ∷ paths) more =
     ap (λ b. bytes_eq first path || b) (one_of-append path paths more)
-        ∙ regroup (bytes_eq first path) (is_one_of path paths) (is_one_of path more)
+    ∙ regroup (bytes_eq first path) (is_one_of path paths) (is_one_of path more)
 
 -- a path is one of two lists of paths, which are put in order
 pub one_of-in_order : (path : List ℕ) (paths more : List (List ℕ)) → is_one_of path (in_order (paths ++ more)) ≡

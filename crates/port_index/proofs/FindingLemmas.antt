@@ -35,7 +35,7 @@ module _ (rows : MemoryRows) where
     finds = ap (λ (one : Bor MemoryRows). one.now) same ∙ is.finds;
     ahead = subst (All (IsEntryOf rows)) (sym (taken old.left new.left new.ahead next))
         (All-rest (IsEntryOf rows) (shown first) old.left (ahead_of old)
-            (ap (λ (one : Option Lent). option_to_list (option_map shown one) ++ old.left) ahead) is.ahead);
+        (ap (λ (one : Option Lent). option_to_list (option_map shown one) ++ old.left) ahead) is.ahead);
   }
 
   -- the row of the path that comes first
@@ -44,7 +44,7 @@ module _ (rows : MemoryRows) where
       → Some (row_seen first.1.now.row) ≡ entries_in rows path
   first-found old first path is ahead same =
       let all = subst (All (IsEntryOf rows)) (ap (λ (one : Option Lent). option_to_list (option_map shown one) ++ old.left) ahead) is.ahead
-          in
+      in
       let inside : 0 < length (shown first ∷ old.left) = omega arith in
       sym (ap (entries_in rows) (sym same) ∙ ap (λ row. option_map (λ (said : Said). said.outcome) (option_map known_seen row))
-          (all 0 (shown first) inside))
+      (all 0 (shown first) inside))

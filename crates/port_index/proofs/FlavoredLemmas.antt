@@ -20,7 +20,7 @@ filter-targets target (item ∷ items) = by (target item) (filter-targets target
 
     by : (path : Option (List ℕ)) → filter_map (λ item. if_flavored (target item)) items ≡ filter has_comma (filter_map target items)
         → cons_option (if_flavored path) (filter_map (λ item. if_flavored (target item)) items) ≡ filter has_comma
-            (cons_option path (filter_map target items))
+        (cons_option path (filter_map target items))
     by None same = same
     by (Some path) same = kept path (has_comma path) same
 

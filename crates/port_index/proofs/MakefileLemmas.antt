@@ -43,13 +43,17 @@ record Makefile (path : List ℕ) (names : List (List ℕ)) : Type 0 where
 
 module _ (path : List ℕ) where
   further : (name : List ℕ) (names : List (List ℕ)) → Makefile path names → Makefile path (name ∷ names)
-  further name names found = record { name = found.name; one = or_right (bytes_eq name found.name) (is_one_of found.name names)
-      found.one; is = found.is }
+  further name names found = record {
+    name = found.name;
+    one = or_right (bytes_eq name found.name) (is_one_of found.name names)
+        found.one;
+    is = found.is;
+  }
 
   here : (name : List ℕ) (names : List (List ℕ)) (directory : List ℕ) (same : Bool) → listable_directory name ≡ Some directory
       → bytes_eq directory path ≡ same
       → (same || is_one_of path (filter_map listable_directory names)) ≡ true → (is_one_of path (filter_map listable_directory names) ≡ true
-          → Makefile path names) → Makefile path (name ∷ names)
+      → Makefile path names) → Makefile path (name ∷ names)
   here name names directory true is e one rest = record {
     name = name;
     one = ap (λ b. b || is_one_of name names) ((bytes_eq-Decides name name).1 refl);
@@ -70,7 +74,7 @@ module _ (path : List ℕ) where
   first_of : (found : Option (List ℕ)) (paths : List (List ℕ)) → found ≡ Some path → is_one_of path (cons_option found paths) ≡ true
   first_of found paths is =
       ap (λ (o : Option (List ℕ)). is_one_of path (cons_option o paths)) is ∙ ap (λ b. b || is_one_of path paths)
-          ((bytes_eq-Decides path path).1 refl)
+      ((bytes_eq-Decides path path).1 refl)
 
   later_of : (found : Option (List ℕ)) (paths : List (List ℕ)) → is_one_of path paths ≡ true
       → is_one_of path (cons_option found paths) ≡ true
@@ -94,7 +98,7 @@ module _ (path : List ℕ) where
     pub directory-there : (files : FileMap) → contains_key files name ≡ true → is_one_of path (directories files) ≡ true
     directory-there files there =
         among-in_order (λ one. bytes_eq one path) (filter_map listable_directory (keys files))
-            ∙ one_of-makefile (keys files) (sym (there-named files name) ∙ there)
+        ∙ one_of-makefile (keys files) (sym (there-named files name) ∙ there)
 
   -- one of the files' names is the makefile of a directory of theirs
   there-directory : (files : FileMap) → is_one_of path (directories files) ≡ true → Makefile path (keys files)
@@ -120,15 +124,15 @@ module _ (old new : FileMap) (same : SameMakefiles old new) where
   still-directory path is =
       let found = there-directory path old is in
       directory-there path found.name found.is new (same found.name (makefile-named found.name path found.is)
-          ∙ there-named old found.name ∙ found.one)
+      ∙ there-named old found.name ∙ found.one)
 
 same-directories : (old new : FileMap) → SameMakefiles old new → directories new ≡ directories old
 same-directories old new same =
     same_in_order (directories new) (directories old) (in_order-sorted (filter_map listable_directory (keys new)))
-        (in_order-sorted (filter_map listable_directory (keys old)))
+    (in_order-sorted (filter_map listable_directory (keys old)))
     (λ path. tied path (directories new)
     ∙ same_by (is_one_of path (directories new)) (is_one_of path (directories old)) (still-directory new old (λ name is. sym (same name is))
-        path) (still-directory old new same path)
+    path) (still-directory old new same path)
     ∙ sym (tied path (directories old)))
 
 pub same-makefiles : SameMakefilesServe

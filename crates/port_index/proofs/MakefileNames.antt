@@ -82,8 +82,11 @@ resolved_by : (first plain : Bool) (parts : Option (List (List ℕ))) (name : Li
 resolved_by false plain parts name e = absurd cc
 resolved_by true false parts name e = absurd cc
 resolved_by true true None name e = absurd cc
-resolved_by true true (Some kept) name e = (refl, λ other is. ok_of _ (with_slashes kept) name e
-    ∙ ap (λ parts. with_slashes (elim parts as (λ _. List (List ℕ)) [ None ↦ [] | Some parts ↦ parts ])) is)
+resolved_by true true (Some kept) name e = (
+  refl,
+  λ other is. ok_of _ (with_slashes kept) name e
+      ∙ ap (λ parts. with_slashes (elim parts as (λ _. List (List ℕ)) [ None ↦ [] | Some parts ↦ parts ])) is,
+)
 
 -- the last part of a makefile's name
 abbrev pub last : List ℕ
@@ -155,7 +158,7 @@ module _ (part : List ℕ) (is : is_part part ≡ true) where
     named_in dots =
         let whole : list_all is_no_dot (parts_with part (parts_of_name directory)) ≡ true =
         and_from (is_no_dot part) (list_all is_no_dot (parts_of_name directory ++ last ∷ [])) no_dot
-            (joined_dots (parts_of_name directory) dots) in
+        (joined_dots (parts_of_name directory) dots) in
         record {
           part = part;
           is = parts.1 (parts_with part (parts_of_name directory)) (ap (kept_parts []) (cut_name directory)
@@ -175,9 +178,9 @@ module _ (part : List ℕ) (is : is_part part ≡ true) where
     unfolding kept_parts
     named_own own =
         let cut : parts_of_name text ≡ [] ∷ part ∷ codes "." ∷ last ∷ [] = cut_name directory
-            ∙ ap (λ d. [] ∷ parts_with part (parts_of_name d)) own in
+        ∙ ap (λ d. [] ∷ parts_with part (parts_of_name d)) own in
         let between : are_between slash is_plain (part ∷ codes "." ∷ last ∷ []) ≡ true = ap (are_between slash is_plain) (sym cut)
-            ∙ parts_are_between slash is_plain text parts.0 in
+        ∙ parts_are_between slash is_plain text parts.0 in
         record {
           part = part;
           is = parts.1 (parts_with part []) (ap (kept_parts []) cut ∙ ap (option_and_then (λ next. kept_parts next (codes "." ∷ last ∷ [])))

@@ -88,7 +88,7 @@ module _ (key : List ℕ) (row : KnownRow) (old new : List ℕ → Option KnownR
       ∙ noted name (sym (ap (λ found. asks_in found name) (put path ∙ ap (λ b. cond b (Some row) (old path)) e)) ∙ asks)
   put_by name path false e asks =
       stays name path (before name path (sym (ap (λ found. asks_in found name) (put path ∙ ap (λ b. cond b (Some row) (old path)) e))
-          ∙ asks))
+      ∙ asks))
 
   pub put-noted : (name path : List ℕ) → asks_in (new path) name ≡ true → is name path ≡ true
   put-noted name path asks = put_by name path (bytes_eq key path) refl asks
@@ -171,7 +171,7 @@ none_asks (name ∷ names) = none_asks names
 
 tied : (names : BTreeSet (String Global)) (text : String Global)
     → list_any (λ (name : String Global). bytes_eq (string_bytes text) (string_bytes name)) (keys names) ≡ contains_text
-        names (string_bytes text)
+    names (string_bytes text)
 tied names text =
     ap (λ (p : String Global → Bool). list_any p (keys names))
     (λ i (name : String Global). sym (is_eq-slice_cmp (string_bytes text) (string_bytes name)) i)

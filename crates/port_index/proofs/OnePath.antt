@@ -34,7 +34,7 @@ module _ (outcomes : List ℕ → PathOutcome) (path : List ℕ) where
   root_by : (one : List ℕ) (paths : List (List ℕ)) (outcome : PathOutcome) (same : Bool) → outcomes one ≡ outcome → bytes_eq one path ≡ same
       → find is_at (roots_among outcomes paths) ≡ (if is_one_of path paths then root_at outcomes path else None)
       → find is_at (cons_option (root_with one (root_state outcome)) (roots_among outcomes paths)) ≡
-          (if (same || is_one_of path paths) then root_at outcomes path else None)
+      (if (same || is_one_of path paths) then root_at outcomes path else None)
   root_by one paths outcome same is e rest = by (root_state outcome) refl same e
     where
       at_path : bytes_eq one path ≡ true → root_at outcomes path ≡ root_with one (root_state outcome)
@@ -42,14 +42,14 @@ module _ (outcomes : List ℕ → PathOutcome) (path : List ℕ) where
 
       by : (state : Option (Result PortValue FaultAt)) → root_state outcome ≡ state → (same : Bool) → bytes_eq one path ≡ same
           → find is_at (cons_option (root_with one state) (roots_among outcomes paths)) ≡
-              (if (same || is_one_of path paths) then root_at outcomes path else None)
+          (if (same || is_one_of path paths) then root_at outcomes path else None)
       by None none true e =
           let absent : root_at outcomes path ≡ None = at_path e ∙ ap (root_with one) none in
           rest ∙ ap (λ root. if is_one_of path paths then root else None) absent ∙ either (is_one_of path paths) ∙ sym absent
       by None none false e = rest
       by (Some state) some true e =
           ap (λ (b : Bool). if b then root_with one (Some state) else find is_at (roots_among outcomes paths)) e
-              ∙ sym (at_path e ∙ ap (root_with one) some)
+          ∙ sym (at_path e ∙ ap (root_with one) some)
       by (Some state) some false e =
           ap (λ (b : Bool). if b then root_with one (Some state) else find is_at (roots_among outcomes paths)) e ∙ rest
 
@@ -94,7 +94,7 @@ module _ (outcomes : List ℕ → PathOutcome) (path : List ℕ) where
 
   edges_then : (one : List ℕ) (paths : List (List ℕ)) (same : Bool) → bytes_eq one path ≡ same
       → edges_from outcomes (one ∷ paths) path ≡ (if same then map (edge_at outcomes) (items_at outcomes one) else []) ++
-          edges_from outcomes paths path
+      edges_from outcomes paths path
   edges_then one paths same e =
       ap (filter is_from) (map-append (edge_at outcomes) (items_at outcomes one) (items_among outcomes paths))
       ∙ edges_of_row one same e (outcomes one) (edges_among outcomes paths)
@@ -110,7 +110,7 @@ module _ (outcomes : List ℕ → PathOutcome) (path : List ℕ) where
   none_later (one ∷ paths) above =
       edges_then one paths (bytes_eq one path) refl
       ∙ ap (λ (b : Bool). (if b then map (edge_at outcomes) (items_at outcomes one) else []) ++ edges_from outcomes paths path)
-          (later_by one (bytes_eq one path) refl above.0)
+      (later_by one (bytes_eq one path) refl above.0)
       ∙ none_later paths above.1
 
   abbrev own_edges : List RootEdgeValue

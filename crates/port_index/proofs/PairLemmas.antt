@@ -59,7 +59,7 @@ one_if found = if is_some found then 1 else 0
 module _ (world : World) where
   place_counts : (flavors : Option (List (List ℕ))) (makefile : Option (List ℕ))
       → evaluations_for (finding_of world flavors makefile).outcome ≡ one_if
-          (option_map (λ makefile. let pair : Pair = record { makefile = makefile; flavors = flavors } in pair) makefile)
+      (option_map (λ makefile. let pair : Pair = record { makefile = makefile; flavors = flavors } in pair) makefile)
   place_counts flavors (Some makefile) = ap (λ (b : Bool). if b then 1 else 0)
       (evaluation_there makefile flavors (means world makefile flavors))
   place_counts flavors None = refl

@@ -21,7 +21,7 @@ read_by false true written text path is e = absurd cc
 read_by false false false text path is e = absurd cc
 read_by false false true text path is e =
     let t = and_parts (list_all may_occur text && is_directory (directory_element (elements_of text)))
-        (not (list_any is_bare_dash (choices_of (elements_of text)))) is in
+    (not (list_any is_bare_dash (choices_of (elements_of text)))) is in
     (cc, (and_parts (list_all may_occur text) (is_directory (directory_element (elements_of text))) t.0).1)
 
 pub read_as : (text : List ℕ) (path : PathValue) → path_of text ≡ Ok path → (value_of (elements_of text) ≡ path)

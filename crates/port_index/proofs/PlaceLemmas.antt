@@ -46,7 +46,7 @@ parts-end (x ∷ text) = split_by x text (codes "/Makefile") (x == slash) refl (
 kept_by : (parts : List (List ℕ)) (rest : (kept : List (List ℕ)) → kept_parts kept (parts ++ last ∷ []) ≡ option_map
     (λ all. all ++ last ∷ []) (kept_parts kept parts)) (next : Option (List (List ℕ)))
     → option_and_then (λ one. kept_parts one (parts ++ last ∷ [])) next ≡ option_map (λ all. all ++ last ∷ [])
-        (option_and_then (λ one. kept_parts one parts) next)
+    (option_and_then (λ one. kept_parts one parts) next)
 kept_by parts rest None = refl
 kept_by parts rest (Some next) = rest next
 
@@ -77,7 +77,7 @@ named_so : (parts : Option (List (List ℕ))) (name : List ℕ) → name_of_part
 named_so None name is = absurd cc
 named_so (Some parts) name is =
     ap is_makefile (is_name (nat_le 2 (length (parts ++ last ∷ [])) && nat_le (length (with_slashes (parts ++ last ∷ []))) 255) parts name
-        is ∙ with_slashes-end parts) ∙ ends-so (with_slashes parts)
+    is ∙ with_slashes-end parts) ∙ ends-so (with_slashes parts)
 
 resolved_by : (plain : Bool) (text name : List ℕ) → (if plain then name_of_parts (kept_parts [] (parts_of_name (text ++ codes "/Makefile")))
     else Err BadName) ≡ Ok name → is_makefile name ≡ true
@@ -107,14 +107,14 @@ module _ (old new : FileMap) (same : SameMakefiles old new) where
   find_first None rest makefile found = found
   find_first (Some name) rest makefile found =
       ap (λ (b : Bool). if b then Some name else find (contains_key new) rest) (same name (makefile name refl))
-          ∙ ap (λ o. if contains_key old name then Some name else o) found
+      ∙ ap (λ o. if contains_key old name then Some name else o) found
 
   places : (trees : List (List ℕ)) (directory : List ℕ) → find (contains_key new) (candidates trees directory) ≡ find (contains_key old)
       (candidates trees directory)
   places [] directory = refl
   places (tree ∷ trees) directory =
       find_first (result_ok (resolved (makefile_in tree directory))) (candidates trees directory) (candidate-so tree directory)
-          (places trees directory)
+      (places trees directory)
 
   module _ (settings : Settings) where
     abbrev before : World
@@ -133,7 +133,7 @@ module _ (old new : FileMap) (same : SameMakefiles old new) where
         (finding_in before directory flavors).outcome
     there_in directory flavors =
         ap (λ makefile. is_there (finding_of after flavors makefile).outcome) (places settings.path directory)
-            ∙ there_of flavors (place before directory)
+        ∙ there_of flavors (place before directory)
 
     there_named : (path : Option PathValue) → is_there (finding_named after path).outcome ≡ is_there (finding_named before path).outcome
     there_named None = refl

@@ -110,13 +110,13 @@ module _ (test : PortValue → Bool) (listed : List (List ℕ)) where
   port_by found entry rest all port false is row tested before =
       ap (λ one. one ++ chosen rest) (append-nil found)
       ∙ passed-on found entry rest all (ap (λ b. cond b (port_at (key_of entry) (row_seen entry.1.row)) None)
-          (sym (same_among (key_of entry)) ∙ is)) before
+      (sym (same_among (key_of entry)) ∙ is)) before
 
   -- the row of a port that passes
   pub port-on : (found : List RootValue) (entry : Entry) (rest : List Entry) (all : List RootValue) (port : PortValue)
       → row_seen entry.1.row ≡ Port port → test port ≡ true → found ++ chosen (entry ∷ rest) ≡ all
       → (found ++ (if is_one_of (key_of entry) listed then record { path = key_of entry; state = Ok port } ∷ [] else [])) ++ chosen rest ≡
-          all
+      all
   port-on found entry rest all port row tested before = port_by found entry rest all port
       (is_one_of (key_of entry) listed) refl row tested before
 
@@ -130,7 +130,7 @@ module _ (test : PortValue → Bool) (listed : List (List ℕ)) where
   other-on found entry rest all port row tested before =
       passed-on found entry rest all
       (ap (λ one. cond (among (key_of entry) listed) one None) (ap (port_at (key_of entry)) row
-          ∙ ap (λ b. cond b (Some (root_of entry port)) None) tested)
+      ∙ ap (λ b. cond b (Some (root_of entry port)) None) tested)
       ∙ none_either (among (key_of entry) listed)) before
 
   module _ (rows : List ℕ → Option KnownRow) where
@@ -146,21 +146,21 @@ module _ (test : PortValue → Bool) (listed : List (List ℕ)) where
     by_entries (entry ∷ entries) all =
         ap (λ (row : Option KnownRow). cons_option (cond (among (key_of entry) listed)
         (port_at (key_of entry) (known_row (option_map (λ (said : Said). said.outcome) (option_map known_seen row)))) None)
-            (chosen entries)) (sym all.0)
+        (chosen entries)) (sym all.0)
         ∙ ap (cons_option (listed_root root listed (key_of entry))) (by_entries entries all.1)
 
     no_root : (path : List ℕ) (row : Option KnownRow) → rows path ≡ row → is_some row ≡ false → is_some (root path) ≡ true → ⊥
     no_root path None is none there =
         false≢true (ap (λ (found : Option KnownRow). is_some
-            (port_at path (known_row (option_map (λ (said : Said). said.outcome) (option_map known_seen found))))) (sym is) ∙ there)
+        (port_at path (known_row (option_map (λ (said : Said). said.outcome) (option_map known_seen found))))) (sym is) ∙ there)
     no_root path (Some row) is none there = false≢true (sym none)
 
     found_by : (path : List ℕ) (key : String Global) (row : KnownRow) (entries : List Entry) (same : Bool)
         → is_eq (slice_cmp nat_cmp path (string_bytes key)) ≡ same
         → is_some (cond same (Some row) (lookup (is_at (λ (one : String Global). slice_cmp nat_cmp path (string_bytes one))) entries)) ≡
-            true
+        true
         → (is_some (lookup (is_at (λ (one : String Global). slice_cmp nat_cmp path (string_bytes one))) entries) ≡ true
-            → among path (map key_of entries) ≡ true)
+        → among path (map key_of entries) ≡ true)
         → (is_eq (slice_cmp nat_cmp path (string_bytes key)) || among path (map key_of entries)) ≡ true
     found_by path key row entries true e found rest = ap (λ b. b || among path (map key_of entries)) e
     found_by path key row entries false e found rest = ap (λ b. b || among path (map key_of entries)) e ∙ rest found

@@ -29,7 +29,7 @@ module _ (world : World) (entries : List ℕ → Option PathOutcome) (have : Say
   targets_have = known-of world (filter_map target_of (items_among (outcome_at world) (listed_paths world))) entries (λ path is. have path
       (one_of-in_order path (listed_paths world) (filter_map target_of (items_among (outcome_at world) (listed_paths world)))
       ∙ or_right (is_one_of path (listed_paths world))
-          (is_one_of path (filter_map target_of (items_among (outcome_at world) (listed_paths world)))) is))
+      (is_one_of path (filter_map target_of (items_among (outcome_at world) (listed_paths world)))) is))
 
   roots_are : roots_among (known_in entries) (listed_paths world) ≡ roots world
   roots_are = roots-known world entries (listed_paths world) listed_have
@@ -62,7 +62,7 @@ one_of_these path paths is other false same = refl
 pub one_row_more : OneRowMoreLeavesLess
 one_row_more world weight paths path old new is none fills =
     ap (λ n. n + sum_by weight (lacking new paths))
-        (sym (ap (sum_by weight) (ap (λ row. if is_none row then path ∷ [] else []) none) ∙ alone (weight path)))
+    (sym (ap (sum_by weight) (ap (λ row. if is_none row then path ∷ [] else []) none) ∙ alone (weight path)))
     ∙ sum-on world weight (path ∷ []) paths old new fills
     ∙ ap (sum_by weight) (lacking-same old (path ∷ paths) paths
     (in_order-same (path ∷ paths) paths (λ other. one_of_these path paths is other (bytes_eq path other) refl)))

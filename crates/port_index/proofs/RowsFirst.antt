@@ -83,6 +83,6 @@ module _ {R : Type 0} (root : List ℕ → Option R) where
       by_keys ordered sorted =
           met keys
           ∙ ap (filter_map root) (same_in_order (filter both keys) (filter shown listed)
-              (IsStrictlySortedBy-filter by_bytes both keys sorted)
+          (IsStrictlySortedBy-filter by_bytes both keys sorted)
           (IsStrictlySortedBy-filter by_bytes shown listed ordered) members)
           ∙ sym (kept listed)

@@ -28,7 +28,7 @@ module _ (files other : FileMap) where
       → Agrees other (map (asked files) (if there then [] else up_to_first files names))
       → ((if here then Some name else find (contains_key other) names) ≡ (if there then Some name else find (contains_key files) names))
       × (map (asked other) (if here then [] else up_to_first other names) ≡ map (asked files)
-          (if there then [] else up_to_first files names))
+      (if there then [] else up_to_first files names))
   found_by name names true true same later agrees = (refl, refl)
   found_by name names true false same later agrees = absurd cc
   found_by name names false true same later agrees = absurd cc
@@ -52,7 +52,7 @@ module _ (law : IsTheSameWhereAnswered) (files other : FileMap) (settings : Sett
 
   makefile_alike : (flavors : Option (List (List ℕ))) (makefile : Option (List ℕ)) → Agrees other (questions_after here flavors makefile)
       → AreAlike (finding_of here flavors makefile) (finding_of there flavors makefile) (questions_after here flavors makefile)
-          (questions_after there flavors makefile)
+      (questions_after there flavors makefile)
   makefile_alike flavors None agrees = (refl, refl)
   makefile_alike flavors (Some makefile) agrees =
       let same = law files other settings makefile flavors agrees in
@@ -60,7 +60,7 @@ module _ (law : IsTheSameWhereAnswered) (files other : FileMap) (settings : Sett
 
   directory_alike : (directory : List ℕ) (flavors : Option (List (List ℕ))) → Agrees other (questions_in here directory flavors)
       → AreAlike (finding_in here directory flavors) (finding_in there directory flavors) (questions_in here directory flavors)
-          (questions_in there directory flavors)
+      (questions_in there directory flavors)
   directory_alike directory flavors agrees =
       let places = places_asked files settings.path directory in
       let after = questions_after here flavors (place here directory) in

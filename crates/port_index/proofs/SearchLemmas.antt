@@ -24,7 +24,7 @@ pub one_of-place : (paths : List (String Global)) (place : ℕ) (one : String Gl
 one_of-place paths place one path inside at same =
     list_any-map (λ other. bytes_eq other path) string_bytes paths
     ∙ list_any_at (λ other. bytes_eq (string_bytes other) path) paths place one inside
-        (ap (λ other. bytes_eq (string_bytes other) path) (sym at) ∙ same)
+    (ap (λ other. bytes_eq (string_bytes other) path) (sym at) ∙ same)
 
 module _ (paths : List (String Global)) (path : List ℕ) where
   -- what each path compares to rises along them
@@ -33,7 +33,7 @@ module _ (paths : List (String Global)) (path : List ℕ) where
       let sorted = subst (IsStrictlySortedBy by_bytes) ordered (in_order-sorted (map string_bytes paths)) in
       let long = length-map paths string_bytes in
       let below = Less-from_sorted by_bytes (map string_bytes paths) k (k + 1) (string_bytes d) sorted (omega arith)
-          (omega (arith, long)) in
+      (omega (arith, long)) in
       let here = get_or-map string_bytes paths k d (string_bytes d) (omega arith) in
       let next = get_or-map string_bytes paths (k + 1) d (string_bytes d) high in
       let one = string_bytes (get_or paths k d) in
@@ -49,7 +49,7 @@ module _ (paths : List (String Global)) (path : List ℕ) where
       let parts = search (rises ordered) in
       sym (list_any-map (λ one. bytes_eq one path) string_bytes paths
       ∙ list_any_none (λ one. bytes_eq (string_bytes one) path) paths
-          (λ k d inside. sym (is_eq-slice_cmp (string_bytes (get_or paths k d)) path)
+      (λ k d inside. sym (is_eq-slice_cmp (string_bytes (get_or paths k d)) path)
       ∙ ⊎_elim (λ before. ap is_eq (parts.0 k d (omega arith) before)) (λ after. ap is_eq (parts.1 k d after inside)) (cases_lt k place)))
 
   -- a path at a place where the comparison gives `Equal` is one of them, and is the one that is there
@@ -58,5 +58,5 @@ module _ (paths : List (String Global)) (path : List ℕ) where
       → bytes_eq (string_bytes one) path ≡ is_one_of path (map string_bytes paths)
   one_of-found place one inside at tied =
       let same : bytes_eq (string_bytes one) path ≡ true = sym (is_eq-slice_cmp (string_bytes one) path)
-          ∙ ap (λ text. is_eq (by_bytes (string_bytes text) path)) at ∙ ap is_eq tied in
+      ∙ ap (λ text. is_eq (by_bytes (string_bytes text) path)) at ∙ ap is_eq tied in
       same ∙ sym (one_of-place paths place one path inside at same)

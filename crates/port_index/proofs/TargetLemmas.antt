@@ -40,7 +40,7 @@ named_by_one : (path : List ℕ) (targets : List ℕ → List (List ℕ)) (paths
 named_by_one path targets [] = refl
 named_by_one path targets (one ∷ paths) =
     list_any-append (λ other. bytes_eq other path) (targets one) (flat_map targets paths) ∙ ap (λ b. is_one_of path (targets one) || b)
-        (named_by_one path targets paths)
+    (named_by_one path targets paths)
 
 -- a path is needed if it is listed, or if a listed path's row names it
 pub needed-named : NeededAreNamed

@@ -44,7 +44,7 @@ module _ (weight : List ℕ → ℕ) where
   added_by : (k x : List ℕ) (texts : List (List ℕ)) (o : Ordering) → by_bytes k x ≡ o → IsStrictlySortedBy by_bytes (x ∷ texts)
       → sum_by weight (insert_key by_bytes texts k) ≡ sum_by weight texts + unless texts weight k
       → sum_by weight (match_ordering o (k ∷ x ∷ texts) (x ∷ texts) (x ∷ insert_key by_bytes texts k)) ≡ sum_by weight (x ∷ texts) +
-          unless (x ∷ texts) weight k
+      unless (x ∷ texts) weight k
   unfolding IsStrictlySortedBy
   added_by k x texts Less is sorted rest =
       let out = ap (λ (b : Bool). if b then 0 else weight k) (outside k (x ∷ texts) (is, further k x texts is sorted.0)) in
@@ -73,7 +73,7 @@ module _ (weight : List ℕ → ℕ) where
   taken_out_by : (x z : List ℕ) (texts : List (List ℕ)) (same : Bool) → bytes_eq x z ≡ same → Above z texts
       → sum_by weight texts ≡ sum_by (without x weight) texts + (if is_one_of x texts then weight x else 0)
       → weight z + sum_by weight texts ≡ ((if same then 0 else weight z) + sum_by (without x weight) texts) +
-          (if same || is_one_of x texts then weight x else 0)
+      (if same || is_one_of x texts then weight x else 0)
   taken_out_by x z texts true is above rest =
       let this : x ≡ z = (bytes_eq-Decides x z).0 is in
       let out = ap (λ (b : Bool). if b then weight x else 0) (outside x texts (subst (λ t. Above t texts) (sym this) above)) in
@@ -90,7 +90,7 @@ module _ (weight : List ℕ → ℕ) where
       sum_by-cons weight z texts
       ∙ taken_out_by x z texts (bytes_eq x z) refl sorted.0 (taken_out x texts sorted.1)
       ∙ ap (λ (b : Bool). ((if bytes_eq x z then 0 else weight z) + sum_by (without x weight) texts) +
-          (if b || is_one_of x texts then weight x else 0)) (bytes_eq-sym x z)
+      (if b || is_one_of x texts then weight x else 0)) (bytes_eq-sym x z)
       ∙ ap (λ n. n + (if is_one_of x (z ∷ texts) then weight x else 0)) (sym (sum_by-cons (without x weight) z texts))
 
 without_both : (weight : List ℕ → ℕ) (x : List ℕ) (texts : List (List ℕ)) (y : List ℕ) (same : Bool)
@@ -124,7 +124,7 @@ sum-joined weight (x ∷ xs) ys =
 kept_by : {X : Type 0} (test : X → Bool) (weight : X → ℕ) (x : X) (xs : List X) (passes : Bool)
     → sum_by weight (filter test xs) ≡ sum_by (λ y. if test y then weight y else 0) xs
     → sum_by weight (if passes then x ∷ filter test xs else filter test xs) ≡ (if passes then weight x else 0) + sum_by
-        (λ y. if test y then weight y else 0) xs
+    (λ y. if test y then weight y else 0) xs
 kept_by test weight x xs true rest = sum_by-cons weight x (filter test xs) ∙ ap (λ n. weight x + n) rest
 kept_by test weight x xs false rest = rest ∙ omega arith
 

@@ -69,7 +69,7 @@ steady-subpackages_of : (variables : Variables) → Steady (subpackages_of varia
 unfolding subpackages_of
 steady-subpackages_of variables =
     bind (steady-asked_words variables (codes "MULTI_PACKAGES")) (λ names. either (are_subpackages names) (steady-give _)
-        (steady-fail kinds.BadName))
+    (steady-fail kinds.BadName))
 
 steady-present : (text : Option (List ℕ)) → Steady (present text)
 steady-present None = steady-fail kinds.NoName
@@ -90,7 +90,7 @@ steady-made_name : (variables : Variables) (marks : List (List ℕ)) (subpackage
     → Steady (made_name variables marks subpackage base)
 steady-made_name variables marks subpackage base =
     bind (steady-package_value variables (codes "REVISION") subpackage)
-        (λ revision. bind (steady-package_value variables (codes "EPOCH") subpackage)
+    (λ revision. bind (steady-package_value variables (codes "EPOCH") subpackage)
     (λ epoch. bind (steady-readable (split_name base)) (λ name. steady-readable _)))
 
 steady-default_name : (variables : Variables) (marks : List (List ℕ)) (subpackage : List ℕ)
@@ -98,7 +98,7 @@ steady-default_name : (variables : Variables) (marks : List (List ℕ)) (subpack
 unfolding default_name
 steady-default_name variables marks subpackage =
     bind (steady-package_base variables subpackage)
-        (λ base. bind (steady-present base) (λ name. steady-made_name variables marks subpackage name))
+    (λ base. bind (steady-present base) (λ name. steady-made_name variables marks subpackage name))
 
 steady-name_from : (variables : Variables) (marks : List (List ℕ)) (subpackage : List ℕ) (text : Option (List ℕ))
     → Steady (name_from variables marks subpackage text)
@@ -137,9 +137,9 @@ unfolding port_of
 steady-port_of variables =
     bind (steady-flavors_of variables) (λ flavors. bind (steady-subpackages_of variables) (λ subpackages.
     bind (steady-asked_text variables (codes "MAINTAINER"))
-        (λ maintainer. bind (steady-asked_words variables (codes "CATEGORIES")) (λ categories.
+    (λ maintainer. bind (steady-asked_words variables (codes "CATEGORIES")) (λ categories.
     bind (steady-packages_of variables _ subpackages) (λ packages. bind (steady-depends_of variables subpackages)
-        (λ depends. steady-give _))))))
+    (λ depends. steady-give _))))))
 
 recorded-costs : (makefile : List ℕ) (end : Result (PortValue × Meter) (FaultKind × Meter))
     → record_units (recorded makefile end) ≡ (left end).spent

@@ -25,7 +25,7 @@ has_double-more (first ∷ texts) text =
     ap (λ found. found || has_double (texts ++ text ∷ [])) (list_any-append (bytes_eq first) texts (text ∷ []))
     ∙ ap (λ found. (is_among first texts || (bytes_eq first text || false)) || found) (has_double-more texts text)
     ∙ ap (λ same. (is_among first texts || (same || false)) || (is_among text texts || has_double texts))
-        (nat_list_eq_equiv.symm first text)
+    (nat_list_eq_equiv.symm first text)
     ∙ regroup (is_among first texts) (bytes_eq text first) (is_among text texts) (has_double texts)
 
 stays : (front more double whole : Bool) → (double ≡ true → whole ≡ true) → (front || double) ≡ true → ((front || more) || whole) ≡ true
@@ -48,7 +48,7 @@ with-one-more : (items : List (String Global)) (i : ℕ) (item : String Global) 
     → map string_bytes (take (i + 1) items) ≡ map string_bytes (take i items) ++ string_bytes item ∷ []
 with-one-more items i item below is =
     ap (map string_bytes) (take_more items i item below ∙ ap (λ x. take i items ++ x ∷ []) (sym is))
-        ∙ map-append string_bytes (take i items) (item ∷ [])
+    ∙ map-append string_bytes (take i items) (item ∷ [])
 
 -- whether the next item is a double is whether it was there already
 pub has_double-next : (items : List (String Global)) (i : ℕ) (item : String Global) (held : Bool) → i < length items
@@ -80,7 +80,7 @@ new is_new false is fresh = refl
 pub is_among-more : (items : List (String Global)) (i : ℕ) (item : String Global) (text : List ℕ) → i < length items
     → item ≡ get_or items i item
     → is_among text (map string_bytes (take (i + 1) items)) ≡
-        (bytes_eq text (string_bytes item) || is_among text (map string_bytes (take i items)))
+    (bytes_eq text (string_bytes item) || is_among text (map string_bytes (take i items)))
 is_among-more items i item text below is =
     ap (is_among text) (with-one-more items i item below is)
     ∙ list_any-append (bytes_eq text) (map string_bytes (take i items)) (string_bytes item ∷ [])

@@ -17,4 +17,4 @@ module _ (p : List ℕ → Bool) (items : List (String Global)) (i : ℕ) where
       → false ≡ list_all p (map string_bytes items)
   one-fails item below is fails =
       sym (list_all-map p string_bytes items ∙ list_all_at (λ found. p (string_bytes found)) items i item below
-          (ap (λ found. p (string_bytes found)) (sym is) ∙ fails))
+      (ap (λ found. p (string_bytes found)) (sym is) ∙ fails))

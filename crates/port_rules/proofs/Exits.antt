@@ -32,7 +32,7 @@ module _ {M F S : Type 0} (turn : S → List ℕ → Work M F S) (items : List (
   pub walk-on : (s next : S) (item : String Global) (text : List ℕ) (m m' : M) → i < length items → item ≡ get_or items i item
       → text ≡ string_bytes item
       → turn s text m ≡ Ok (next, m') → each turn s (map string_bytes (drop i items)) m ≡ each turn next
-          (map string_bytes (drop (i + 1) items)) m'
+      (map string_bytes (drop (i + 1) items)) m'
   walk-on s next item text m m' below is same value =
       each-value turn string_bytes s next items i item item m m' below is (ap (λ t. turn s t m) (sym same) ∙ value)
 

@@ -57,9 +57,9 @@ pub told_alike : (keys other_keys : List (List ℕ)) (t u : ℕ) (events other_e
     → own_requests told ≡ own_requests told_there → AreToldAlike t steps service u others other
 told_alike keys other_keys t u events other_events steps others service other told told_there same =
     let all : replies_to t steps ++ map (λ (answer : ℕ × ReplyMessage). answer.1) told.later ≡ replies_to u others ++ map
-        (λ (answer : ℕ × ReplyMessage). answer.1) told_there.later =
+    (λ (answer : ℕ × ReplyMessage). answer.1) told_there.later =
     all_replies keys t events steps service told ∙ ap (replies_from opening_world) same
-        ∙ sym (all_replies other_keys u other_events others other told_there) in
+    ∙ sym (all_replies other_keys u other_events others other told_there) in
     record {
       alike = fronts (replies_to t steps) (replies_to u others) _ _ all;
       whole = λ none none_there.

@@ -70,21 +70,29 @@ lost_and_stays : (c : ℕ) (told : Told) (old new : State) (h : Hears (Fault c) 
 lost_and_stays c told old new h =
     let connection : Connection = hears (Fault c) h.hears.connection in
     let P : Bool → Type 0 = λ b. MatchBool b (TakesOff connection.stream h.taken h.hears.takes.stream) ((h.taken ≡ Nothing)
-        × (h.hears.takes.stream ≡ connection.stream)) in
+    × (h.hears.takes.stream ≡ connection.stream)) in
     let busy : P false = subst P (and-false (is_none connection.waits && is_empty connection.pending)) h.hears.takes.stands in
     record {
       nothing = busy.0;
       silent = h.hears.takes.told_is ∙ ap (refused_at_once (keys_of old) c) busy.0;
       slices = λ t. same_slice t old new (h.worlds t)
           (h.queues t ∙ ap (λ k. option_map (λ (q : Queue). q ++ entering (keys_of old) c k t) (queue_at t old)) busy.0
-              ∙ sym (nothing_after (queue_at t old)));
+          ∙ sym (nothing_after (queue_at t old)));
     }
 
 opens_and_stays : (told : Told) (old new : State) → Opens told old new → KeepsSlices told Nothing old new
-opens_and_stays told old new (inl h) = record { nothing = refl; silent = h.reply; slices = λ t. same_slice t old new
-    (h.worlds t) (h.queues t) }
-opens_and_stays told old new (inr h) = record { nothing = refl; silent = h.reply; slices = λ t. same_slice t old new
-    (h.same.worlds t) (h.same.queues t) }
+opens_and_stays told old new (inl h) = record {
+  nothing = refl;
+  silent = h.reply;
+  slices = λ t. same_slice t old new
+      (h.worlds t) (h.queues t);
+}
+opens_and_stays told old new (inr h) = record {
+  nothing = refl;
+  silent = h.reply;
+  slices = λ t. same_slice t old new
+      (h.same.worlds t) (h.same.queues t);
+}
 
 turns_change : (t : ℕ) (told : Told) (old new : State) → Turns t told old new → KeepsSlices told Nothing old new
     ⊎ FirstLeaves t told Nothing old new
@@ -132,26 +140,26 @@ changes (Turn t) told old new does = turns_change t told old new does
 opens_book : (c : ℕ) (told : Told) (old new : State) → c ≡ next_of old → Opens told old new → BookOpens c told (book_of old) (book_of new)
 opens_book c told old new number (inl h) =
     let P : Option Refused → Type 0 = λ refused. MatchOption refused ((connection_of c new ≡ Some new_connection)
-        × KeepsOthers c (book_of old) (book_of new)) (λ why. KeepsConnections (book_of old) (book_of new)) in
+    × KeepsOthers c (book_of old) (book_of new)) (λ why. KeepsConnections (book_of old) (book_of new)) in
     subst P (sym h.refused) (subst (λ n. (connection_of n new ≡ Some new_connection) × KeepsOthers n (book_of old) (book_of new))
-        (sym number) (h.connection, h.connections))
+    (sym number) (h.connection, h.connections))
 opens_book c told old new number (inr h) =
     let P : Option Refused → Type 0 = λ refused. MatchOption refused ((connection_of c new ≡ Some new_connection)
-        × KeepsOthers c (book_of old) (book_of new)) (λ why. KeepsConnections (book_of old) (book_of new)) in
+    × KeepsOthers c (book_of old) (book_of new)) (λ why. KeepsConnections (book_of old) (book_of new)) in
     subst P (sym h.refused) h.same.connections
 
 turns_book : (t : ℕ) (told : Told) (old new : State) → Turns t told old new → BookTurns told (book_of old) (book_of new)
 turns_book t told old new (inl h) =
     let P : Option Tell → Type 0 = λ reply. MatchOption reply (KeepsConnections (book_of old) (book_of new))
-        (λ tell. TellsOn tell (book_of old) (book_of new)) in
+    (λ tell. TellsOn tell (book_of old) (book_of new)) in
     subst P (sym h.reply) h.same.connections
 turns_book t told old new (inr (inl h)) =
     let P : Option Tell → Type 0 = λ reply. MatchOption reply (KeepsConnections (book_of old) (book_of new))
-        (λ tell. TellsOn tell (book_of old) (book_of new)) in
+    (λ tell. TellsOn tell (book_of old) (book_of new)) in
     subst P (sym h.reply) h.same.connections
 turns_book t told old new (inr (inr h)) =
     let P : Option Tell → Type 0 = λ reply. MatchOption reply (KeepsConnections (book_of old) (book_of new))
-        (λ tell. TellsOn tell (book_of old) (book_of new)) in
+    (λ tell. TellsOn tell (book_of old) (book_of new)) in
     subst P (sym h.reply) h.tells
 
 -- the book-keeping

@@ -40,7 +40,7 @@ module _ (t : ℕ) (told : Told) (worlds : List World) (queues : List Queue) (jo
   turn_spends =
       subst (λ (s : Option Slice). TurnSpends s job told) (sym (slice_there t worlds queues queue rest first world there was waited))
       (subst (λ (r : Option Tell). MatchOption r (MayHaveHad world first.request (one_turn_more (had_by job) (spent_as_told told)))
-          (λ (tell : Tell). Charges world first.request tell.reply (spent_on job) (spent_as_told told))) (sym tells) charged)
+      (λ (tell : Tell). Charges world first.request tell.reply (spent_on job) (spent_as_told told))) (sym tells) charged)
 
 -- nothing waits
 pub idle_spends : (t : ℕ) (told : Told) (worlds : List World) (queues : List Queue) (job : Option TenantJob) (queue : Queue)
@@ -48,7 +48,7 @@ pub idle_spends : (t : ℕ) (told : Told) (worlds : List World) (queues : List Q
     → TurnSpends (sliced (slice_get worlds t) (slice_get queues t)) job told
 idle_spends t told worlds queues job queue was empty none =
     subst (λ (q : Option Queue). TurnSpends (sliced (slice_get worlds t) q) job told) (sym (was ∙ ap Some empty))
-        (in_world (slice_get worlds t))
+    (in_world (slice_get worlds t))
   where
     in_world : (world : Option World) → TurnSpends (sliced world (Some [])) job told
     in_world None = none
@@ -58,7 +58,7 @@ idle_spends t told worlds queues job queue was empty none =
 pub pending_spends : (t : ℕ) (told : Told) (worlds worlds_after : List World) (queues : List Queue) (job : Option TenantJob)
     (queue rest : Queue) (first : QueuedRequest) (spent : Spent)
     → t < length worlds → slice_get queues t ≡ Some queue → queue ≡ first ∷ rest → LeavesUnanswered t first.request (had_by job)
-        spent worlds worlds_after
+    spent worlds worlds_after
     → told.reply ≡ None → spent_as_told told ≡ spent → TurnSpends (sliced (slice_get worlds t) (slice_get queues t)) job told
 pending_spends t told worlds worlds_after queues job queue rest first spent within was waited goes_on silent tells_spent =
     let world : World = get_or worlds t opening_world in
@@ -67,4 +67,4 @@ pending_spends t told worlds worlds_after queues job queue rest first spent with
     subst (λ (s : Spent). MayHaveHad world first.request (one_turn_more (had_by job) s)) (sym tells_spent) (goes_on.within world there) in
     subst (λ (s : Option Slice). TurnSpends s job told) (sym (slice_there t worlds queues queue rest first world there was waited))
     (subst (λ (r : Option Tell). MatchOption r (MayHaveHad world first.request (one_turn_more (had_by job) (spent_as_told told)))
-        (λ (tell : Tell). Charges world first.request tell.reply (spent_on job) (spent_as_told told))) (sym silent) spends)
+    (λ (tell : Tell). Charges world first.request tell.reply (spent_on job) (spent_as_told told))) (sym silent) spends)

@@ -84,7 +84,7 @@ pub settles : (keys : List (List ℕ)) (Plain : ℕ → QueuedRequest → ReplyM
     → Stands keys Plain c came sent tells state
 settles keys Plain c came sent tells after state at below idle is =
     let P : Bool → Type 0 = λ b. is_done after ≡ b → connection_of c state ≡ (if b then None else Some after)
-        → Stands keys Plain c came sent tells state in
+    → Stands keys Plain c came sent tells state in
     elim (is_done after) as P [
       | true ↦ λ done none.
           let front = (and_parts _ _ done).0 in
@@ -116,7 +116,7 @@ reply_bytes reply close none = let first : 72 ≡ 0 = ap first_byte none in absu
 some_reply : (reply : ReplyMessage) (close : Bool) → is_empty (reply_text reply close) ≡ false
 some_reply reply close =
     ⊎_elim (λ none. absurd (reply_bytes reply close (no_bytes (reply_text reply close) none))) (λ some. some)
-        (cases_Bool (is_empty (reply_text reply close)))
+    (cases_Bool (is_empty (reply_text reply close)))
 
 -- a connection with something pending, or for which something waits, isn't ready
 pub pending_waits : (connection : Connection) → is_empty connection.pending ≡ false → is_ready connection ≡ true → ⊥
@@ -135,7 +135,7 @@ idle_after_whole (Some tenant) close connection ready = absurd (false≢true rea
 pub idle_after : (keys : List (List ℕ)) (connection : Connection) (taken : Taken) (stream : Incoming) → IsTaken connection taken stream
     → is_ready (connection_after keys taken (record connection { stream = stream })) ≡ true
     → TakesOff (connection_after keys taken (record connection { stream = stream })).stream Nothing
-        (connection_after keys taken (record connection { stream = stream })).stream
+    (connection_after keys taken (record connection { stream = stream })).stream
 idle_after keys connection Nothing stream stands ready =
     let takes : TakesOff connection.stream Nothing stream = MatchBool-at_true (TakesOff connection.stream Nothing stream) _ ready stands in
     (refl, subst (λ (s : Incoming). MatchBool s.over (Unit {0}) (Waits s.unread)) (sym takes.0) takes.1)
@@ -163,7 +163,7 @@ over_after : (request : RequestMessage) (old new : Incoming) → Removes old req
 over_after request old new takes =
     ap (λ (s : Incoming). s.over) takes.after
     ∙ elim (request.close) as (λ b. (if b then ended else record { unread = takes.rest; over = false }).over ≡ b)
-        [ true ↦ refl | false ↦ refl ]
+    [ true ↦ refl | false ↦ refl ]
 
 -- what is taken off a connection that isn't lost
 module _ (keys : List (List ℕ)) (Plain : ℕ → QueuedRequest → ReplyMessage → Type 0) (c : ℕ) (came sent : List ℕ) (tells : List Tell)
@@ -207,7 +207,7 @@ module _ (keys : List (List ℕ)) (Plain : ℕ → QueuedRequest → ReplyMessag
     told_connection : (tell : Tell) (pending : List ℕ) → tell.conn ≡ c → Talk keys Plain c came sent (tells ++ tell ∷ []) pending [] stream
         → ((u : ℕ) → slice_of u mid ≡ option_map (with_requests []) (slice_of u old))
         → IsConnection keys Plain c came sent (tells ++ told_in c (Some tell)) (record connection { stream = stream; pending = pending })
-            mid
+        mid
     told_connection tell pending here talk slices = record {
       alive = is.alive;
       waiting = [];
@@ -222,32 +222,32 @@ module _ (keys : List (List ℕ)) (Plain : ℕ → QueuedRequest → ReplyMessag
         → Removes connection.stream request stream
         → ((u : ℕ) → slice_of u mid ≡ option_map (with_requests (entering_of place c u request)) (slice_of u old))
         → IsConnection keys Plain c came sent (tells ++ told_in c (told_of_tenant c place))
-            (connection_with place request.close (record connection { stream = stream })) mid
+        (connection_with place request.close (record connection { stream = stream })) mid
     takes_whole None request key_is takes slices =
         told_connection (at_once c unknown_key) (reply_text unknown_key request.close) refl
         (talk_told keys Plain c came sent tells connection.stream stream request (at_once c unknown_key) takes
         (inr (subst (λ (o : Option ℕ). MatchOption o (at_once c unknown_key ≡ at_once c unknown_key)
-            (λ tenant. (at_once c unknown_key ≡ in_turn tenant c unknown_key) × Plain tenant (queued_request c request) unknown_key))
-            (sym key_is) refl)) ready_talk)
+        (λ tenant. (at_once c unknown_key ≡ in_turn tenant c unknown_key) × Plain tenant (queued_request c request) unknown_key))
+        (sym key_is) refl)) ready_talk)
         slices
     takes_whole (Some tenant) request key_is takes slices = record {
       alive = is.alive;
       waiting = request ∷ [];
       talk = subst (λ p. Talk keys Plain c came sent (tells ++ []) p (request ∷ []) stream) (sym ready_pending)
           (subst (λ ts. Talk keys Plain c came sent ts [] (request ∷ []) stream) (sym (append-nil tells))
-              (talk_waits keys Plain c came sent tells connection.stream stream request takes ready_talk));
+          (talk_waits keys Plain c came sent tells connection.stream stream request takes ready_talk));
       holds = (request, refl, key_is, ready_pending, over_after request connection.stream stream takes);
       queued = λ u slice was. let from = option_from (with_requests (entering_of (Some tenant) c u request)) (slice_of u old) slice
           (sym (slices u) ∙ was) in
           ap (λ (s : Slice). queued_requests_of c (waiting_of s)) (sym from.2) ∙ queued_requests_join c tenant u request (waiting_of from.0)
-              (ready_queues u from.0 from.1);
+          (ready_queues u from.0 from.1);
     }
 
   -- whatever is taken
   takes_ready : (taken : Taken) → is_ready connection ≡ true → TakesOff connection.stream taken stream
       → ((u : ℕ) → slice_of u mid ≡ option_map (with_requests (entering keys c taken u)) (slice_of u old))
       → IsConnection keys Plain c came sent (tells ++ told_in c (refused_at_once keys c taken))
-          (connection_after keys taken (record connection { stream = stream })) mid
+      (connection_after keys taken (record connection { stream = stream })) mid
   takes_ready Nothing ready takes slices = takes_nothing takes.0 slices
   takes_ready (Whole request) ready takes slices = takes_whole ready (tenant_of keys request.key) request refl takes slices
   takes_ready (Refusal fault) ready takes slices =
@@ -258,18 +258,18 @@ module _ (keys : List (List ℕ)) (Plain : ℕ → QueuedRequest → ReplyMessag
       told_connection ready (at_once c store_failed) (reply_text store_failed close) refl
       (subst (λ k. Talk keys Plain c came sent (tells ++ at_once c store_failed ∷ []) (reply_text store_failed k) [] stream) takes.2
       (talk_told keys Plain c came sent tells connection.stream stream takes.0 (at_once c store_failed) takes.1
-          (inl refl) (ready_talk ready)))
+      (inl refl) (ready_talk ready)))
       slices
 
   pub takes : (taken : Taken) → IsTaken connection taken stream
       → ((u : ℕ) → slice_of u mid ≡ option_map (with_requests (entering keys c taken u)) (slice_of u old))
       → IsConnection keys Plain c came sent (tells ++ told_in c (refused_at_once keys c taken))
-          (connection_after keys taken (record connection { stream = stream })) mid
+      (connection_after keys taken (record connection { stream = stream })) mid
   takes taken stands slices =
       let Q : Taken → Type 0 = λ k. IsConnection keys Plain c came sent (tells ++ told_in c (refused_at_once keys c k))
-          (connection_after keys k (record connection { stream = stream })) mid in
+      (connection_after keys k (record connection { stream = stream })) mid in
       let P : Bool → Type 0 = λ b. is_ready connection ≡ b → MatchBool b (TakesOff connection.stream taken stream) ((taken ≡ Nothing)
-          × (stream ≡ connection.stream)) → Q taken in
+      × (stream ≡ connection.stream)) → Q taken in
       elim (is_ready connection) as P [
         | true ↦ λ ready off. takes_ready taken ready off slices
         | false ↦ λ busy off. subst Q (sym off.0)

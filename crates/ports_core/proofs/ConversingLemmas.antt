@@ -63,15 +63,15 @@ module _ (keys : List (List ℕ)) (Plain : ℕ → QueuedRequest → ReplyMessag
       tells connection.pending is.waiting (fed connection.stream bytes)
   heard_bytes bytes goes_on room =
       elim (connection.stream.over) as (λ b. connection.stream.over ≡ b → Talk keys Plain c (came ++ bytes) sent tells connection.pending
-          is.waiting (fed connection.stream bytes)) [
+      is.waiting (fed connection.stream bytes)) [
         | true ↦ λ over.
             let no_room : room_on connection ≡ 0 =
             ap (λ b. if b then 0 else room_of connection.stream) goes_on
-                ∙ ap (λ b. if b then 0 else unread_limit - length connection.stream.unread) over in
+            ∙ ap (λ b. if b then 0 else unread_limit - length connection.stream.unread) over in
             let none : bytes ≡ [] = no_length bytes (subst (λ n. length bytes ≤ n) no_room room) in
             subst (λ bs. Talk keys Plain c (came ++ bs) sent tells connection.pending is.waiting (fed connection.stream bs)) (sym none)
             (subst (λ s. Talk keys Plain c (came ++ []) sent tells connection.pending is.waiting s) (sym fed_none)
-                (talk_quiet keys Plain c came sent tells connection.pending is.waiting connection.stream is.talk))
+            (talk_quiet keys Plain c came sent tells connection.pending is.waiting connection.stream is.talk))
         | false ↦ λ goes. talk_fed keys Plain c came sent tells connection.pending is.waiting connection.stream bytes goes is.talk
       ] refl
 
@@ -118,13 +118,19 @@ module _ (keys : List (List ℕ)) (Plain : ℕ → QueuedRequest → ReplyMessag
         queued = is.queued;
       } in
       nothing_sent (came ++ came_in c (Piece c bytes)) sent tells after
-          (subst (λ bs. IsConnection keys Plain c (came ++ bs) sent tells after old) (sym (here c bytes.items)) came_is)
+      (subst (λ bs. IsConnection keys Plain c (came ++ bs) sent tells after old) (sym (here c bytes.items)) came_is)
 
   heard_end : IsHeard keys Plain c (End c) step old
   heard_end came sent tells connection fits at is =
       let after : Connection = record connection { ended = true } in
-      let same : IsConnection keys Plain c came sent tells after old = record { alive = is.alive; waiting = is.waiting; talk =
-          is.talk; holds = is.holds; queued = is.queued } in
+      let same : IsConnection keys Plain c came sent tells after old = record {
+        alive = is.alive;
+        waiting = is.waiting;
+        talk =
+            is.talk;
+        holds = is.holds;
+        queued = is.queued;
+      } in
       nothing_came came (sent ++ []) tells after (nothing_sent came sent tells after same)
 
   -- the bytes that are written are those that were pending first
@@ -134,24 +140,24 @@ module _ (keys : List (List ℕ)) (Plain : ℕ → QueuedRequest → ReplyMessag
   sent_first count connection at sent_is =
       here c step.sent ∙ sent_is
       ∙ ap (λ (o : Option Connection). let bytes = unwrap_or (option_map (λ (l : Connection). l.pending) o) [] in take
-          (count_off count bytes) bytes) at
+      (count_off count bytes) bytes) at
 
   heard_wrote : (count : Option ℕ) → step.sent ≡ sent_by (Wrote c count) old → IsHeard keys Plain c (Wrote c count) step old
   heard_wrote None sent_is came sent tells connection fits at is =
       let all : take (length connection.pending) connection.pending ≡ connection.pending = take_all (length connection.pending)
-          connection.pending (omega arith) in
+      connection.pending (omega arith) in
       let front : sent_in c (Wrote c None) step ≡ connection.pending = sent_first None connection at sent_is ∙ all in
       let after : Connection = record connection { pending = [] } in
       nothing_came came (sent ++ sent_in c (Wrote c None) step) tells after
       (subst (λ bs. IsConnection keys Plain c came (sent ++ bs) tells after old) (sym front)
-          (heard_write keys Plain c came sent tells connection old is connection.pending [] (append-nil connection.pending) (λ none. refl)))
+      (heard_write keys Plain c came sent tells connection old is connection.pending [] (append-nil connection.pending) (λ none. refl)))
   heard_wrote (Some count) sent_is came sent tells connection fits at is =
       let front : sent_in c (Wrote c (Some count)) step ≡ take count connection.pending = sent_first (Some count) connection at sent_is in
       let after : Connection = record connection { pending = drop count connection.pending } in
       nothing_came came (sent ++ sent_in c (Wrote c (Some count)) step) tells after
       (subst (λ bs. IsConnection keys Plain c came (sent ++ bs) tells after old) (sym front)
       (heard_write keys Plain c came sent tells connection old is (take count connection.pending) (drop count connection.pending)
-          (take-append-drop count connection.pending) (λ none. ap (drop count) none ∙ drop_nil count)))
+      (take-append-drop count connection.pending) (λ none. ap (drop count) none ∙ drop_nil count)))
 
 -- what an event does to what was asked and told on the connection
 abbrev pub Moves : List (List ℕ) → (ℕ → QueuedRequest → ReplyMessage → Type 0) → ℕ → Event → Effect → State → State → Type 0
@@ -201,18 +207,18 @@ module _ (keys : List (List ℕ)) (Plain : ℕ → QueuedRequest → ReplyMessag
   untouched : Untouched c event step old mid → Moves keys Plain c event step old mid
   untouched h came sent tells stands =
       subst (λ bs. Stands keys Plain c bs (sent ++ sent_in c event step) (tells ++ told_in c step.told.reply) mid)
-          (sym (ap (λ bs. came ++ bs) h.came ∙ append-nil came))
+      (sym (ap (λ bs. came ++ bs) h.came ∙ append-nil came))
       (subst (λ bs. Stands keys Plain c came bs (tells ++ told_in c step.told.reply) mid)
-          (sym (ap (λ bs. sent ++ bs) h.sent ∙ append-nil sent))
+      (sym (ap (λ bs. sent ++ bs) h.sent ∙ append-nil sent))
       (subst (λ ts. Stands keys Plain c came sent ts mid) (sym (ap (λ ts. tells ++ ts) h.told ∙ append-nil tells))
-          (stands_on h came sent tells stands)))
+      (stands_on h came sent tells stands)))
 
 -- where nothing is taken, nothing enters
 pub none_enters : (keys : List (List ℕ)) (d : ℕ) (told : Told) (taken : Taken) (old mid : State) → KeepsSlices told taken old mid → (u : ℕ)
     → slice_of u mid ≡ option_map (with_requests (entering keys d taken u)) (slice_of u old)
 none_enters keys d told taken old mid rests u =
     rests.slices u ∙ as_it_was (slice_of u old)
-        ∙ ap (λ k. option_map (with_requests (entering keys d k u)) (slice_of u old)) (sym rests.nothing)
+    ∙ ap (λ k. option_map (with_requests (entering keys d k u)) (slice_of u old)) (sym rests.nothing)
   where
     as_it_was : (o : Option Slice) → o ≡ option_map (with_requests []) o
     as_it_was None = refl
@@ -222,7 +228,7 @@ none_enters keys d told taken old mid rests u =
 pub same_queues : (c : ℕ) (old mid : State) → ((u : ℕ) → slice_of u mid ≡ slice_of u old) → (u : ℕ) (slice : Slice)
     → slice_of u mid ≡ Some slice
     → (before : Slice) × (slice_of u old ≡ Some before)
-        × (queued_requests_of c (waiting_of slice) ≡ queued_requests_of c (waiting_of before))
+    × (queued_requests_of c (waiting_of slice) ≡ queued_requests_of c (waiting_of before))
 same_queues c old mid slices u slice was = (slice, sym (slices u) ∙ was, refl)
 
 -- the connection itself hears something
@@ -243,19 +249,19 @@ hears_moves keys Plain c event step taken old mid keys_are allowed heard h enter
     let stands = subst (λ l. IsTaken (hears event l) taken stream) connection_is h.takes.stands in
     let slices = λ (u : ℕ). enters u ∙ ap (λ ks. option_map (with_requests (entering ks c taken u)) (slice_of u old)) keys_are in
     let took = takes keys Plain c (came ++ came_in c event) (sent ++ sent_in c event step) tells (hears event is.connection) old mid now
-        stream taken stands slices in
+    stream taken stands slices in
     let after_is : connection_after keys taken (record (hears event is.connection) { stream = stream }) ≡ h.after =
     sym (h.takes.connection_is ∙ ap (λ ks. connection_after ks taken (record (hears event h.connection) { stream = stream })) keys_are
-        ∙ ap (λ l. connection_after keys taken (record (hears event l) { stream = stream })) connection_is) in
+    ∙ ap (λ l. connection_after keys taken (record (hears event l) { stream = stream })) connection_is) in
     let told_is : told_in c (refused_at_once keys c taken) ≡ told_in c step.told.reply =
     ap (told_in c) (sym (h.takes.told_is ∙ ap (λ ks. refused_at_once ks c taken) keys_are)) in
     settles keys Plain c (came ++ came_in c event) (sent ++ sent_in c event step) (tells ++ told_in c step.told.reply) h.after mid
-        h.connection_is (omega (arith, next, is.below))
+    h.connection_is (omega (arith, next, is.below))
     (λ came_some. subst (λ l. is_ready l ≡ true → TakesOff l.stream Nothing l.stream) after_is
-        (idle_after keys (hears event is.connection) taken stream stands))
+    (idle_after keys (hears event is.connection) taken stream stands))
     (subst (λ ts. IsConnection keys Plain c (came ++ came_in c event) (sent ++ sent_in c event step) (tells ++ ts) h.after mid) told_is
     (subst (λ l. IsConnection keys Plain c (came ++ came_in c event) (sent ++ sent_in c event step)
-        (tells ++ told_in c (refused_at_once keys c taken)) l mid) after_is took))
+    (tells ++ told_in c (refused_at_once keys c taken)) l mid) after_is took))
 
 -- what is told at once goes to the connection that asked
 told_of : (c d : ℕ) (place : Option ℕ) → d ≢ c → told_in c (told_of_tenant d place) ≡ []
@@ -282,9 +288,12 @@ hears_untouched c d event step taken old mid apart no_bytes none_sent h enters n
   connection = h.others c (λ e. apart (sym e));
   next = next;
   queues = λ u slice was.
-      let from = option_from (with_requests (entering (keys_of old) d taken u)) (slice_of u old) slice (sym (enters u) ∙ was) in
-      (from.0, from.1, ap (λ (s : Slice). queued_requests_of c (waiting_of s)) (sym from.2) ∙ queued_requests_after (keys_of old) c d taken
-          u (waiting_of from.0) apart);
+      let from = option_from (with_requests (entering (keys_of old) d taken u)) (slice_of u old) slice (sym (enters u) ∙ was) in (
+        from.0,
+        from.1,
+        ap (λ (s : Slice). queued_requests_of c (waiting_of s)) (sym from.2) ∙ queued_requests_after (keys_of old) c d taken
+            u (waiting_of from.0) apart,
+      );
 }
 
 -- no connection and no slice changes, and nothing is told
@@ -310,7 +319,7 @@ opened keys Plain c d step taken old mid here is_next below connection_is rests 
 opened keys Plain c d step taken old mid here is_next below connection_is rests came sent tells (inr is) =
     let fresh = is.fresh (omega (arith, is_next, here)) in
     let talk : Talk keys Plain c came sent tells [] [] opening_stream =
-        subst (λ s. Talk keys Plain c came sent tells [] [] s) fresh.0 is.talk in
+    subst (λ s. Talk keys Plain c came sent tells [] [] s) fresh.0 is.talk in
     let told : told_in c step.told.reply ≡ [] = ap (told_in c) rests.silent in
     let stands : Stands keys Plain c came sent tells mid = inl (record {
       connection = new_connection;
@@ -334,12 +343,12 @@ opens_move : (keys : List (List ℕ)) (Plain : ℕ → QueuedRequest → ReplyMe
     → IsSeen (Open d) step.told old mid → Moves keys Plain c (Open d) step old mid
 opens_move keys Plain c d step old mid s =
     let P : Option Refused → Type 0 = λ refused. MatchOption refused ((connection_of d mid ≡ Some new_connection)
-        × KeepsOthers d (book_of old) (book_of mid)) (λ why. KeepsConnections (book_of old) (book_of mid)) in
+    × KeepsOthers d (book_of old) (book_of mid)) (λ why. KeepsConnections (book_of old) (book_of mid)) in
     elim (step.told.refused) as (λ refused. step.told.refused ≡ refused → P refused → Moves keys Plain c (Open d) step old mid) [
       | None ↦ λ none book. ⊎_elim
           (λ here. opened keys Plain c d step s.taken old mid here s.numbers.0 (s.numbers.1 none) book.0 s.changes)
           (λ apart. untouched keys Plain c (Open d) step old mid (rests_untouched c (Open d) step s.taken old mid refl refl s.changes
-              (book.1 c apart) s.next))
+          (book.1 c apart) s.next))
           (cases_eq c d)
       | Some why ↦ λ some book. untouched keys Plain c (Open d) step old mid (rests_untouched c (Open d) step s.taken old mid refl refl
           s.changes (book c) s.next)
@@ -359,7 +368,7 @@ pub first_in_queue : (c : ℕ) (queue : Queue) (first : QueuedRequest) (rest : L
     → first ∷ queued_requests_of c rest ≡ queued_requests_of c queue
 first_in_queue c queue first rest waited here =
     ap (λ b. if b then first ∷ queued_requests_of c rest else queued_requests_of c rest) (sym (eq-eqb first.conn c here))
-        ∙ ap (queued_requests_of c) (sym waited)
+    ∙ ap (queued_requests_of c) (sym waited)
 
 -- a turn that answers another connection
 pub answered_there : (c t : ℕ) (step : Effect) (taken : Taken) (old mid : State) (h : FirstLeaves t step.told taken old mid)
@@ -403,7 +412,7 @@ answers_in_turn keys Plain c t request first rest reply key_is alone plain =
     let tell : Tell = in_turn t c reply in
     let same : queued_request c request ≡ first = first_same (queued_request c request) first (queued_requests_of c rest) alone in
     inr (subst (λ (o : Option ℕ). MatchOption o (tell ≡ at_once c unknown_key) (λ tenant. (tell ≡ in_turn tenant c tell.reply)
-        × Plain tenant (queued_request c request) tell.reply)) (sym key_is)
+    × Plain tenant (queued_request c request) tell.reply)) (sym key_is)
     (refl, subst (λ w. Plain t w reply) (sym same) plain))
 
 -- a turn that answers the connection's request
@@ -417,25 +426,25 @@ answered_here keys Plain c t step taken old mid h book next plain here came sent
     let reply = h.tell.reply in
     let conn_is : h.tell.conn ≡ c = h.to_asker ∙ here in
     let first = first_waits c t connection.waits is.is_connection.waiting h.first (queued_requests_of c h.rest)
-        (first_in_queue c (waiting_of h.slice) h.first h.rest h.waited here ∙ is.is_connection.queued t h.slice h.was) in
+    (first_in_queue c (waiting_of h.slice) h.first h.rest h.waited here ∙ is.is_connection.queued t h.slice h.was) in
     let holds : Holds keys (Some t) is.is_connection.waiting connection.pending connection.stream.over =
-        subst (λ w. Holds keys w is.is_connection.waiting connection.pending connection.stream.over) first.0 is.is_connection.holds in
+    subst (λ w. Holds keys w is.is_connection.waiting connection.pending connection.stream.over) first.0 is.is_connection.holds in
     let request = holds.0 in
     let alone : queued_requests_of c h.rest ≡ [] = rest_none (queued_request c request) h.first (queued_requests_of c h.rest)
-        (ap (map (queued_request c)) (sym holds.1) ∙ first.1) in
+    (ap (map (queued_request c)) (sym holds.1) ∙ first.1) in
     let tell : Tell = in_turn t c reply in
     let tell_is : h.tell ≡ tell =
     ap (λ p. let x : Tell = record { tenant = p; conn = h.tell.conn; reply = reply } in x) h.of_tenant
-        ∙ ap (λ d. let x : Tell = record { tenant = Some t; conn = d; reply = reply } in x) conn_is in
+    ∙ ap (λ d. let x : Tell = record { tenant = Some t; conn = d; reply = reply } in x) conn_is in
     let answers : IsAnsweredOn keys Plain c (record { request = request; tell = tell }) = answers_in_turn keys Plain c t request h.first
-        h.rest reply holds.2 (ap (map (queued_request c)) (sym holds.1) ∙ first.1) plain in
+    h.rest reply holds.2 (ap (map (queued_request c)) (sym holds.1) ∙ first.1) plain in
     let talk : Talk keys Plain c came sent tells [] (request ∷ []) connection.stream =
     subst (λ ws. Talk keys Plain c came sent tells [] ws connection.stream) holds.1
-        (subst (λ p. Talk keys Plain c came sent tells p is.is_connection.waiting connection.stream) holds.3 is.is_connection.talk) in
+    (subst (λ p. Talk keys Plain c came sent tells p is.is_connection.waiting connection.stream) holds.3 is.is_connection.talk) in
     let after : Connection = answered reply connection in
     let pending : after.pending ≡ reply_text reply request.close =
     ap (λ b. if b then connection.pending else reply_text reply connection.stream.over) is.is_connection.alive
-        ∙ ap (reply_text reply) holds.4 in
+    ∙ ap (reply_text reply) holds.4 in
     let told : told_in c step.told.reply ≡ tell ∷ [] =
     ap (told_in c) h.told_is ∙ ap (λ (x : Tell). told_in c (Some x)) tell_is ∙ told_here c tell refl in
     let is_connection : IsConnection keys Plain c came sent (tells ++ tell ∷ []) after mid = record {
@@ -449,16 +458,16 @@ answered_here keys Plain c t step taken old mid h book next plain here came sent
           let slice_is : slice ≡ (h.world, h.rest) = some_same (sym was ∙ ap (λ n. slice_of n mid) same ∙ h.slice_is) in
           ap (λ (s : Slice). queued_requests_of c (waiting_of s)) slice_is ∙ alone)
           (λ other. is.is_connection.queued u slice (sym (h.others u other) ∙ was)
-              ∙ ap (λ w. queued_requests_at c u w is.is_connection.waiting) first.0
+          ∙ ap (λ w. queued_requests_at c u w is.is_connection.waiting) first.0
           ∙ ap (λ b. if b then map (queued_request c) is.is_connection.waiting else []) (other_number t u (λ e. other (sym e))))
-              (cases_eq u t);
+          (cases_eq u t);
     } in
     let at : connection_of c mid ≡ kept after =
     ap (λ d. connection_of d mid) (sym conn_is) ∙ book.connection_is
-        ∙ ap (λ d. option_and_then kept (option_map (answered reply) (connection_of d old))) conn_is
+    ∙ ap (λ d. option_and_then kept (option_map (answered reply) (connection_of d old))) conn_is
     ∙ ap (λ (o : Option Connection). option_and_then kept (option_map (answered reply) o)) is.at in
     let stands : Stands keys Plain c came sent (tells ++ tell ∷ []) mid = settles keys Plain c came sent (tells ++ tell ∷ []) after mid at
-        (omega (arith, next, is.below))
+    (omega (arith, next, is.below))
     (λ some ready. absurd (reply_waits after reply request.close pending ready)) is_connection in
     subst (λ bs. Stands keys Plain c bs (sent ++ []) (tells ++ told_in c step.told.reply) mid) (sym (append-nil came))
     (subst (λ bs. Stands keys Plain c came bs (tells ++ told_in c step.told.reply) mid) (sym (append-nil sent))
@@ -477,15 +486,15 @@ turns_move : (keys : List (List ℕ)) (Plain : ℕ → QueuedRequest → ReplyMe
 turns_move keys Plain c t step taken old mid (inl rests) book next plain =
     let connections : KeepsConnections (book_of old) (book_of mid) =
     subst (λ (reply : Option Tell). MatchOption reply (KeepsConnections (book_of old) (book_of mid))
-        (λ tell. TellsOn tell (book_of old) (book_of mid))) rests.silent book in
+    (λ tell. TellsOn tell (book_of old) (book_of mid))) rests.silent book in
     untouched keys Plain c (Turn t) step old mid (rests_untouched c (Turn t) step taken old mid refl refl rests (connections c) next)
 turns_move keys Plain c t step taken old mid (inr h) book next plain =
     let tells : TellsOn h.tell (book_of old) (book_of mid) =
     subst (λ (reply : Option Tell). MatchOption reply (KeepsConnections (book_of old) (book_of mid))
-        (λ tell. TellsOn tell (book_of old) (book_of mid))) h.told_is book in
+    (λ tell. TellsOn tell (book_of old) (book_of mid))) h.told_is book in
     ⊎_elim (λ here. answered_here keys Plain c t step taken old mid h tells next (plain t taken h refl) here)
-        (λ apart. untouched keys Plain c (Turn t) step old mid (answered_there c t step taken old mid h tells next apart))
-        (cases_eq h.first.conn c)
+    (λ apart. untouched keys Plain c (Turn t) step old mid (answered_there c t step taken old mid h tells next apart))
+    (cases_eq h.first.conn c)
 
 -- an event of an open connection, this one or another
 heard_move : (keys : List (List ℕ)) (Plain : ℕ → QueuedRequest → ReplyMessage → Type 0) (c d : ℕ) (event : Event) (step : Effect)
@@ -498,9 +507,9 @@ heard_move : (keys : List (List ℕ)) (Plain : ℕ → QueuedRequest → ReplyMe
     → Moves keys Plain c event step old mid
 heard_move keys Plain c d event step taken old mid keys_are allowed heard no_bytes none_sent h enters next =
     ⊎_elim (λ same. subst (λ n. Moves keys Plain n event step old mid) same (hears_moves keys Plain d event step taken old mid keys_are
-        allowed heard h enters next))
+    allowed heard h enters next))
     (λ apart. untouched keys Plain c event step old mid (hears_untouched c d event step taken old mid apart (no_bytes apart)
-        (none_sent apart) h enters next))
+    (none_sent apart) h enters next))
     (cases_eq d c)
 
 -- any event that is allowed
@@ -513,14 +522,14 @@ moves keys Plain c (Turn t) step old mid keys_are alive allowed sent s plain = t
     s.changes s.books.1 s.next plain
 moves keys Plain c (Piece d bytes) step old mid keys_are alive allowed sent s plain =
     heard_move keys Plain c d (Piece d bytes) step s.taken old mid keys_are allowed (heard_piece keys Plain d step old bytes)
-        (λ apart. ap (λ b. if b then bytes.items else []) (other_number d c apart)) (λ apart. refl) s.books s.changes.slices s.next
+    (λ apart. ap (λ b. if b then bytes.items else []) (other_number d c apart)) (λ apart. refl) s.books s.changes.slices s.next
 moves keys Plain c (End d) step old mid keys_are alive allowed sent s plain =
     heard_move keys Plain c d (End d) step s.taken old mid keys_are allowed (heard_end keys Plain d step old) (λ apart. refl)
-        (λ apart. refl) s.books s.changes.slices s.next
+    (λ apart. refl) s.books s.changes.slices s.next
 moves keys Plain c (Fault d) step old mid keys_are alive allowed sent s plain =
     untouched keys Plain c (Fault d) step old mid
-        (hears_untouched c d (Fault d) step s.taken old mid (λ same. let lost : (d == c) ≡ true = eq-eqb d c same in cc) refl refl s.books
-        (none_enters (keys_of old) d step.told s.taken old mid s.changes) s.next)
+    (hears_untouched c d (Fault d) step s.taken old mid (λ same. let lost : (d == c) ≡ true = eq-eqb d c same in cc) refl refl s.books
+    (none_enters (keys_of old) d step.told s.taken old mid s.changes) s.next)
 moves keys Plain c (Wrote d count) step old mid keys_are alive allowed sent s plain =
     heard_move keys Plain c d (Wrote d count) step s.taken old mid keys_are allowed (heard_wrote keys Plain d step old count sent)
-        (λ apart. refl) (λ apart. ap (λ b. if b then step.sent else []) (other_number d c apart)) s.books s.changes.slices s.next
+    (λ apart. refl) (λ apart. ap (λ b. if b then step.sent else []) (other_number d c apart)) s.books s.changes.slices s.next

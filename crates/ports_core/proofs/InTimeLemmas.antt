@@ -89,7 +89,7 @@ event_seen t (Wrote c count) step old new h =
 event_seen t (Turn u) step old new h =
     let is = seen (Turn u) step.told old new h.allowed h.does in
     ⊎_elim (own_turn t u step.told old new h.jobs h.does h.spends) (other_turn t u step.told old new h.jobs is.taken is.changes)
-        (cases_eq t u)
+    (cases_eq t u)
 
 -- the job after a turn of a tenant for which this request waits first
 job_then : (t : ℕ) (told : Told) (old new : State) (first : QueuedRequest) (rest : List QueuedRequest) (reply : Option Tell)
@@ -112,9 +112,9 @@ may_have : (t : ℕ) (told : Told) (old : State) (world : World) (first : Queued
     → MayHaveHad world first.request (one_turn_more (had_by (job_at t old)) (spent_as_told told))
 may_have t told old world first rest spends is silent =
     let waits : TurnSpends (Some (world, first ∷ rest)) (job_at t old) told =
-        subst (λ (s : Option Slice). TurnSpends s (job_at t old) told) is spends in
+    subst (λ (s : Option Slice). TurnSpends s (job_at t old) told) is spends in
     subst (λ (r : Option Tell). MatchOption r (MayHaveHad world first.request (one_turn_more (had_by (job_at t old)) (spent_as_told told)))
-        (λ (tell : Tell). Charges world first.request tell.reply (spent_on (job_at t old)) (spent_as_told told))) silent waits
+    (λ (tell : Tell). Charges world first.request tell.reply (spent_on (job_at t old)) (spent_as_told told))) silent waits
 
 -- the turns after a turn without a reply are fewer than the bound
 turns_left : (t : ℕ) (told : Told) (old new : State) (world : World) (first : QueuedRequest) (rest : List QueuedRequest)
@@ -149,7 +149,7 @@ none_then (x ∷ xs) ys none = absurd cc
 told_one : (t : ℕ) (told : Told) (tell : Tell) → told.reply ≡ Some tell → tell.tenant ≡ Some t → told_if t told.reply ≡ tell ∷ []
 told_one t told tell is of_tenant =
     ap (told_if t) is ∙ ap (λ p. if is_this_tenant t p then tell ∷ [] else []) of_tenant
-        ∙ ap (λ b. if b then tell ∷ [] else []) (eq-eqb t t refl)
+    ∙ ap (λ b. if b then tell ∷ [] else []) (eq-eqb t t refl)
 
 one_not_none : {X : Type 0} {x : X} {xs : List X} → xs ≡ x ∷ [] → xs ≡ [] → ⊥
 one_not_none one none = cc
@@ -172,9 +172,9 @@ module _ (t : ℕ) (event : Event) (events : List Event) (step : Effect) (old mi
     (is : slice_of t old ≡ Some (world, first ∷ rest)) (left : turns_had t old < most_turns world (plain_request_of first.request))
     (silent : told_if t step.told.reply ≡ []) (low : turns_had t old + (turn_in t event + own_turns t events) < 2 ^ 64)
     (goes_on : (behind : List QueuedRequest) → slice_of t mid ≡ Some (world, first ∷ behind) → turns_had t mid < most_turns world
-        (plain_request_of first.request)
+    (plain_request_of first.request)
     → turns_had t mid + own_turns t events < 2 ^ 64 → turns_had t mid + own_turns t events < most_turns world
-        (plain_request_of first.request)) where
+    (plain_request_of first.request)) where
   one_stays : Stays t old mid × (turn_in t event ≡ 0) → turns_had t old + (turn_in t event + own_turns t events) < most_turns world
       (plain_request_of first.request)
   one_stays (h, none) =
@@ -190,11 +190,11 @@ module _ (t : ℕ) (event : Event) (events : List Event) (step : Effect) (old mi
       let waited = (slice_parts (world_at t old) (queue_at t old) (world, first ∷ rest) is).1 in
       let pending = is_pending t step.told old mid first rest h.turns waited silent in
       let had : turns_had t mid ≡ counted (turns_had t old + 1) = ap (λ (had : Job). had.turns)
-          (had_then t step.told old mid first rest h.job waited pending.reply) in
+      (had_then t step.told old mid first rest h.job waited pending.reply) in
       let sum = one-more (turns_had t old) (turns_had t mid) (turn_in t event) (own_turns t events) had one low in
       subst (λ n. n < most_turns world (plain_request_of first.request)) sum
       (goes_on rest (kept t step.told old mid pending ∙ is) (turns_left t step.told old mid world first rest h is pending.reply)
-          (subst (λ n. n < 2 ^ 64) (sym sum) low))
+      (subst (λ n. n < 2 ^ 64) (sym sum) low))
 
   one_in_time : Sees t event step.told old mid → turns_had t old + (turn_in t event + own_turns t events) < most_turns world
       (plain_request_of first.request)
@@ -208,7 +208,7 @@ told_in_time t world first rest (event ∷ events) [] old new is left run silent
 told_in_time t world first rest (event ∷ events) (step ∷ steps) old new is left run silent low =
     one_in_time t event events step old run.0 world first rest is left (none_first (told_if t step.told.reply) (told_to t steps) silent) low
     (λ behind waits before less. told_in_time t world first behind events steps run.0 new waits before run.2
-        (none_then (told_if t step.told.reply) (told_to t steps) silent) less)
+    (none_then (told_if t step.told.reply) (told_to t steps) silent) less)
     (event_seen t event step old run.0 run.1)
 
 -- Fewer turns than the bound were had by the first request of a tenant with this slice and this job. Where nothing
@@ -244,7 +244,7 @@ pending_left : (t : ℕ) (told : Told) (old new : State) (slice : Slice) → IsO
     → slice_of t old ≡ Some slice → HasTurnsLeft slice (job_at t new)
 pending_left t told old new (world, []) own h is =
     absurd (let none : ◌≡◌ {A = Option Queue} (Some []) (Some (h.first ∷ h.rest)) =
-        sym (slice_parts (world_at t old) (queue_at t old) (world, []) is).1 ∙ h.waits in cc)
+    sym (slice_parts (world_at t old) (queue_at t old) (world, []) is).1 ∙ h.waits in cc)
 pending_left t told old new (world, first ∷ rest) own h is = turns_left t told old new world first rest own is h.reply
 
 -- after each turn of its own a tenant's first request has turns left
@@ -252,12 +252,12 @@ left_turn : (t : ℕ) (told : Told) (old new : State) (slice : Slice) (own : IsO
     → slice_of t new ≡ Some slice → HasTurnsLeft slice (job_at t new)
 left_turn t told old new slice own (inl h) is =
     let none : job_at t new ≡ None = own.job.job_is
-        ∙ ap (λ (q : Option Queue). job_after_turn (option_and_then first_of q) told (job_at t old)) h.nothing_waits in
+    ∙ ap (λ (q : Option Queue). job_after_turn (option_and_then first_of q) told (job_at t old)) h.nothing_waits in
     subst (HasTurnsLeft slice) (sym none) (left_none slice)
 left_turn t told old new slice own (inr (inl h)) is = pending_left t told old new slice own h (sym (kept t told old new h) ∙ is)
 left_turn t told old new slice own (inr (inr h)) is =
     subst (HasTurnsLeft slice)
-        (sym (job_then t told old new h.first h.rest (Some (in_turn t h.first.conn h.replied)) own.job h.waited h.reply)) (left_none slice)
+    (sym (job_then t told old new h.first h.rest (Some (in_turn t h.first.conn h.replied)) own.job h.waited h.reply)) (left_none slice)
 
 run_left : (t : ℕ) (events : List Event) (steps : List Effect) (old new : State) → Run old events steps new → HasLeft t old → HasLeft t new
 run_left t [] [] old new same left = subst (HasLeft t) (sym same) left
@@ -279,4 +279,4 @@ none_yet (key ∷ keys) sizes (suc t) = none_yet keys sizes t
 pub begun_left : EachFirstHasTurnsLeft
 begun_left keys sizes events steps service t world first rest run is =
     run_left t events steps (new_state keys sizes) service run (λ slice was. subst (HasTurnsLeft slice) (sym (none_yet keys sizes t))
-        (left_none slice)) (world, first ∷ rest) is
+    (left_none slice)) (world, first ∷ rest) is

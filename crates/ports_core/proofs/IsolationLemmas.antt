@@ -39,9 +39,9 @@ own-all [] tells fine = refl
 own-all (queued_request ∷ queued_requests) [] fine = refl
 own-all (queued_request ∷ queued_requests) (tell ∷ tells) fine =
     ap (λ b. if b then own_of queued_requests tells else queued_request ∷ own_of queued_requests tells)
-        (All-head (λ (t : Tell). is_failure t.reply.status ≡ false) tell tells fine)
+    (All-head (λ (t : Tell). is_failure t.reply.status ≡ false) tell tells fine)
     ∙ ap (λ ws. queued_request ∷ ws)
-        (own-all queued_requests tells (All-tail (λ (t : Tell). is_failure t.reply.status ≡ false) tell tells fine))
+    (own-all queued_requests tells (All-tail (λ (t : Tell). is_failure t.reply.status ≡ false) tell tells fine))
 
 -- replies to requests, one after the other
 replies-append : (world : World) (first rest : List PlainRequest)
@@ -92,10 +92,10 @@ equal_slices_alike t u slice other_slice events other_events steps others old ne
     λ none none_there.
     sym (append-nil (requests_of served.answered))
     ∙ ap (λ (ws : List QueuedRequest). requests_of served.answered ++ requests_of ws)
-        (sym (none_waits t slice events steps old new served none))
+    (sym (none_waits t slice events steps old new served none))
     ∙ requests
     ∙ ap (λ (ws : List QueuedRequest). requests_of there.answered ++ requests_of ws) (none_waits u other_slice other_events others other_old
-        other_new there none_there)
+    other_new there none_there)
     ∙ append-nil (requests_of there.answered) in
     record {
       alike = fronts (replies_to t steps) (replies_to u others) _ _ all;

@@ -57,7 +57,7 @@ pub joined_first : (keys : List (List ℕ)) (c : ℕ) (taken : Taken) (queues qu
 joined_first keys c taken queues queues_after jobs joins are = λ t queue was job is.
     let from = option_from (λ (q : Queue). q ++ entering keys c taken t) (slice_get queues t) queue (sym (joins t) ∙ was) in
     subst (λ (q : Queue). asked_first q ≡ Some job.question) from.2 (first-joined from.0 (entering keys c taken t) job.question
-        (are t from.0 from.1 job is))
+    (are t from.0 from.1 job is))
 
 -- what work leaves of the job, without a reply and with one
 pub pending_job : {A : Type 0} (t : ℕ) (request : RequestMessage) (reply : Option A) (spent : Spent) (job : Option TenantJob)
@@ -84,9 +84,9 @@ pending_first t queues queues_after queue first spent before jobs jobs_after was
     (λ here.
     let mine : queue ≡ q = some_same (sym was ∙ ap (slice_get queues) (sym here) ∙ sym (same u) ∙ there) in
     let this : job.question ≡ question_of (plain_request_of first.request) = ap (λ (j : TenantJob). j.question)
-        (some_same (sym is ∙ ap (λ n. job_in n jobs_after) here ∙ becomes.job_is)) in
+    (some_same (sym is ∙ ap (λ n. job_in n jobs_after) here ∙ becomes.job_is)) in
     ap asked_first (sym mine) ∙ sym (ap (option_map (λ (w : QueuedRequest). question_of (plain_request_of w.request))) first_is)
-        ∙ ap Some (sym this))
+    ∙ ap Some (sym this))
     (λ ne. are u q (sym (same u) ∙ there) job (sym (becomes.others u ne) ∙ is))
     (cases_eq u t)
 

@@ -13,7 +13,7 @@ pub tenant_of_place : {Z : Type 0} (keys : List (String Z)) (bytes key : List �
     → place ≡ position (λ known. bytes_eq (string_bytes known) bytes) keys → bytes ≡ key → place ≡ tenant_of (key_texts keys) (Some key)
 tenant_of_place keys bytes key place is same =
     is ∙ ap (λ k. position (λ known. bytes_eq (string_bytes known) k) keys) same
-        ∙ sym (position-map (λ known. bytes_eq known key) string_bytes keys)
+    ∙ sym (position-map (λ known. bytes_eq known key) string_bytes keys)
 
 -- one key, and those after it
 pub are_apart-drop : {Z : Type 0} (keys : List (String Z)) (i : ℕ) (key : String Z) → i < length keys → key ≡ get_or keys i key
@@ -23,9 +23,9 @@ unfolding are_apart
 are_apart-drop keys i key lt is =
     ap (λ ks. are_apart (key_texts ks)) (drop-cons keys i key lt)
     ∙ ap (λ k. not (list_any (λ other. bytes_eq other (string_bytes k)) (key_texts (drop (suc i) keys))) && are_apart
-        (key_texts (drop (suc i) keys))) (sym is)
+    (key_texts (drop (suc i) keys))) (sym is)
     ∙ ap (λ b. not b && are_apart (key_texts (drop (suc i) keys))) (list_any-map (λ other. bytes_eq other (string_bytes key))
-        string_bytes (drop (suc i) keys))
+    string_bytes (drop (suc i) keys))
     ∙ ap (λ n. not (list_any (λ other. string_eq other key) (drop n keys)) && are_apart (key_texts (drop n keys))) (sym (add-one i))
 
 -- whether one after a place passes

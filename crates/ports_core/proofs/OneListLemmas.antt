@@ -144,12 +144,12 @@ same_hears : (keys : List (List ℕ)) (event : Event) (c : ℕ) (told : Told) (t
 same_hears keys event c told taken other old was new after same h k =
     let connection : k.connection ≡ h.connection = some_same (sym k.was_open ∙ sym (same c) ∙ h.was_open) in
     let stands : IsTaken (hears event h.connection) other k.takes.stream = subst (λ l. IsTaken (hears event l) other k.takes.stream)
-        connection k.takes.stands in
+    connection k.takes.stands in
     let told_same : refused_at_once keys c taken ≡ refused_at_once keys c other = sym h.takes.told_is ∙ k.takes.told_is in
     let takes = same_taking keys c (hears event h.connection) h.takes.stream k.takes.stream taken other h.takes.stands stands told_same in
     let after_is : h.after ≡ k.after =
     h.takes.connection_is ∙ takes.connection_is ∙ ap (λ l. connection_after keys other (record (hears event l) { stream = k.takes.stream }))
-        (sym connection) ∙ sym k.takes.connection_is in
+    (sym connection) ∙ sym k.takes.connection_is in
     (takes.enters, agree c old was new after same h.others k.others (h.connection_is ∙ ap kept after_is ∙ sym k.connection_is))
 
 same_opens : (c : ℕ) (refused : Option Refused) (old was new after : Book) → ((d : ℕ) → old d ≡ was d)
@@ -166,7 +166,7 @@ same_turns : (reply : Option Tell) (old was new after : Book) → ((d : ℕ) →
 same_turns None old was new after same h k = λ d. h d ∙ same d ∙ sym (k d)
 same_turns (Some tell) old was new after same h k =
     agree tell.conn old was new after same h.others k.others
-        (h.connection_is ∙ ap (λ o. option_and_then kept (option_map (answered tell.reply) o)) (same tell.conn) ∙ sym k.connection_is)
+    (h.connection_is ∙ ap (λ o. option_and_then kept (option_map (answered tell.reply) o)) (same tell.conn) ∙ sym k.connection_is)
 
 same_step : (keys : List (List ℕ)) (event : Event) (told : Told) (taken other : Taken) (old was new after : Book)
     → ((d : ℕ) → old d ≡ was d)

@@ -107,12 +107,12 @@ bound t [] [] h = omega arith
 bound t [] (w ∷ ws) h = let here = h w.conn in let own = count-own w ws in absurd (omega (arith, here, own))
 bound t (e ∷ es) ws h =
     let own : count_from e.0 ws ≤ may_wait t (e.1).waits = subst (λ o. count_from e.0 ws ≤ may_wait_on t o)
-        (connection_here e es) (h e.0) in
+    (connection_here e es) (h e.0) in
     let ih = bound t es (others e.0 ws) (λ c.
     ⊎_elim
     (λ same. let none = ap (λ k. count_from c (others k ws)) (sym same) ∙ count-others_same c ws in omega (arith, none))
     (λ ne. let fewer = count-others e.0 c ws in let all = subst (λ o. count_from c ws ≤ may_wait_on t o) (connection_there c e es ne) (h c)
-        in omega (arith, fewer, all))
+    in omega (arith, fewer, all))
     (cases_eq c e.0)) in
     let split = count-split e.0 ws in
     omega (arith, own, ih, split)
@@ -139,7 +139,7 @@ total-lt t c connection (e ∷ es) at none =
     let le = total-le t es in
     omega (arith, zero_here, le))
     (λ ne. let ih = total-lt t c connection es (sym (connection_there c e es ne) ∙ at) none in let one = may_wait-one t (e.1).waits
-        in omega (arith, ih, one))
+    in omega (arith, ih, one))
     (cases_eq c e.0)
 
 -- where a connection waits for nothing, each tenant has a place
@@ -148,7 +148,7 @@ pub places_left : (queues : List Queue) (es : List (ℕ × Connection)) (c : ℕ
 places_left queues es c connection few seated at none = λ k d within.
     let fits : (queue : Queue) → slice_get queues k ≡ Some queue → HasPlace queue = λ queue was.
     (let all = bound k es queue (λ q. seated k q queue was) in let lt = total-lt k c connection es at none in omega (arith, all, lt, few))
-        in
+    in
     ⊎_elim
     (λ found. subst HasPlace (sym (ap (λ o. unwrap_or o d) found.2) ∙ unwrap_or-slice_get queues k d) (fits found.0 found.2))
     (λ past. absurd (let above = past.0 in omega (arith, above, within)))
@@ -165,7 +165,7 @@ pub opened_seats : (queues : List Queue) (connections after : List (ℕ × Conne
 opened_seats queues connections after n shut same seated = λ t c queue was.
     ⊎_elim
     (λ here. let none = ap (λ k. may_wait_on t (connection_in k connections)) here ∙ shut_waits t (connection_in n connections) shut
-        in let all = seated t c queue was in omega (arith, none, all))
+    in let all = seated t c queue was in omega (arith, none, all))
     (λ ne. subst (λ o. count_from c queue ≤ may_wait_on t o) (sym (same c ne)) (seated t c queue was))
     (cases_eq c n)
 
@@ -196,7 +196,7 @@ ready_after event connection ready = sym (hears_waits event connection) ∙ read
 kept_waits : (t : ℕ) (connection : Connection) → may_wait_on t (kept connection) ≡ may_wait t connection.waits
 kept_waits t connection =
     elim (is_done connection) as (λ b. is_done connection ≡ b → may_wait_on t (if b then None else Some connection) ≡
-        may_wait t connection.waits) [
+    may_wait t connection.waits) [
       | true ↦ λ done. sym (ap (may_wait t) (None_from_is_none connection.waits (and_parts _ _ (and_parts _ _ done).0).0))
       | false ↦ λ open_still. refl
     ] refl
@@ -204,7 +204,7 @@ kept_waits t connection =
 -- a request that is taken waits in its tenant's queue alone
 joins_seats : (c t : ℕ) (place : Option ℕ) (request : RequestMessage) (queue : Queue) → count_from c queue ≡ 0
     → (connection : Connection) → connection.waits ≡ None → count_from c (queue ++ entering_of place c t request) ≤ may_wait t
-        (connection_with place request.close connection).waits
+    (connection_with place request.close connection).waits
 joins_seats c t None request queue none connection free = let same = ap (count_from c) (append-nil queue) in omega (arith, none, same)
 joins_seats c t (Some u) request queue none connection free =
     elim (u == t) as (λ b. count_from c (queue ++ (if b then record { conn = c; request = request } ∷ [] else [])) ≤ one_if b) [
@@ -228,7 +228,7 @@ module _ (keys : List (List ℕ)) (c t : ℕ) (connection : Connection) (queue :
   taken_ready (Whole request) stream free =
       let zero_here : may_wait t connection.waits ≡ 0 = ap (may_wait t) free in
       joins_seats c t (tenant_of keys request.key) request queue (omega (arith, seated, zero_here))
-          (record connection { stream = stream }) free
+      (record connection { stream = stream }) free
   taken_ready (Refusal fault) stream free = stays_seated
   taken_ready (Lost close) stream free = stays_seated
 
@@ -236,9 +236,9 @@ module _ (keys : List (List ℕ)) (c t : ℕ) (connection : Connection) (queue :
       may_wait t (connection_after keys taken (record connection { stream = stream })).waits
   taken_seats taken stream stands =
       let Q : Taken → Type 0 = λ k. count_from c (queue ++ entering keys c k t) ≤ may_wait t
-          (connection_after keys k (record connection { stream = stream })).waits in
+      (connection_after keys k (record connection { stream = stream })).waits in
       let P : Bool → Type 0 = λ b. is_ready connection ≡ b → MatchBool b (TakesOff connection.stream taken stream) ((taken ≡ Nothing)
-          × (stream ≡ connection.stream)) → Q taken in
+      × (stream ≡ connection.stream)) → Q taken in
       elim (is_ready connection) as P [
         | true ↦ λ ready off. taken_ready taken stream (ready_waits connection ready)
         | false ↦ λ busy off. subst Q (sym off.0) stays_seated
@@ -258,7 +258,7 @@ module _ (keys : List (List ℕ)) (event : Event) (c : ℕ) (told : Told) (old n
       let after : Connection = connection_after keys taken (record heard { stream = h.takes.stream }) in
       let before : count_from c from.0 ≤ may_wait t heard.waits =
       subst (λ w. count_from c from.0 ≤ may_wait t w) (sym (hears_waits event h.connection))
-          (subst (λ o. count_from c from.0 ≤ may_wait_on t o) h.was_open (seated t c from.0 from.1)) in
+      (subst (λ o. count_from c from.0 ≤ may_wait_on t o) h.was_open (seated t c from.0 from.1)) in
       let then_seated : count_from c (from.0 ++ entering keys c taken t) ≤ may_wait t after.waits =
       taken_seats keys c t heard from.0 before taken h.takes.stream h.takes.stands in
       let seats : may_wait_on t (connection_in c new) ≡ may_wait t after.waits =
@@ -271,7 +271,7 @@ module _ (keys : List (List ℕ)) (event : Event) (c : ℕ) (told : Told) (old n
       ap (count_from d) (sym from.2) ∙ ap length (queued_requests_after keys d c taken t from.0 (λ e. ne (sym e))) in
       let connection : connection_in d old ≡ connection_in d new = sym (h.others d ne) in
       subst (λ n. n ≤ may_wait_on t (connection_in d new)) (sym same_count) (subst (λ o. count_from d from.0 ≤ may_wait_on t o) connection
-          (seated t d from.0 from.1)))
+      (seated t d from.0 from.1)))
       (cases_eq d c)
 
   pub heard_fresh : (next : ℕ) → ((d : ℕ) → next ≤ d → is_some (connection_in d old) ≡ false) → (d : ℕ) → next ≤ d
@@ -309,7 +309,7 @@ module _ (t : ℕ) (queues : List Queue) (queue after : Queue) (first : QueuedRe
     (connections new : List (ℕ × Connection))
     (within : t < length queues) (was : slice_get queues t ≡ Some queue) (waited : queue ≡ first ∷ after)
     (connection_is : connection_in first.conn new ≡ option_and_then kept
-        (option_map (answered reply) (connection_in first.conn connections)))
+    (option_map (answered reply) (connection_in first.conn connections)))
     (others_are : (d : ℕ) → d ≢ first.conn → connection_in d new ≡ connection_in d connections) where
   module _ (seated : AreSeated queues connections) where
     its_seat : 1 + count_from first.conn after ≤ may_wait_on t (connection_in first.conn connections)
@@ -324,7 +324,7 @@ module _ (t : ℕ) (queues : List Queue) (queue after : Queue) (first : QueuedRe
         ⊎_elim
         (λ same.
         let mine : after ≡ s = some_same (sym (slice_get-set_same queues t after within)
-            ∙ ap (slice_get (set queues t after)) (sym same) ∙ is) in
+        ∙ ap (slice_get (set queues t after)) (sym same) ∙ is) in
         let one = may_wait_on-one t (connection_in first.conn connections) in
         let seat = its_seat in
         ap (λ q. count_from first.conn q) (sym mine) ∙ omega (arith, one, seat))
@@ -342,12 +342,12 @@ module _ (t : ℕ) (queues : List Queue) (queue after : Queue) (first : QueuedRe
         ⊎_elim
         (λ same.
         let mine : after ≡ s = some_same (sym (slice_get-set_same queues t after within)
-            ∙ ap (slice_get (set queues t after)) (sym same) ∙ is) in
+        ∙ ap (slice_get (set queues t after)) (sym same) ∙ is) in
         let all = seated t d queue was in
         let step = ap (count_from d) waited ∙ count-step d first after in
         let fewer : count_from d after ≤ may_wait_on t (connection_in d connections) = omega (arith, all, step) in
         subst (λ k. count_from d s ≤ may_wait_on k (connection_in d connections)) (sym same)
-            (subst (λ q. count_from d q ≤ may_wait_on t (connection_in d connections)) mine fewer))
+        (subst (λ q. count_from d q ≤ may_wait_on t (connection_in d connections)) mine fewer))
         (λ ne. seated u d s (sym (slice_get-set_other queues t u after ne) ∙ is))
         (cases_eq u t)
 
@@ -363,7 +363,7 @@ module _ (t : ℕ) (queues : List Queue) (queue after : Queue) (first : QueuedRe
   answered_fresh next fresh d above =
       ⊎_elim
       (λ same. ap (λ k. is_some (connection_in k new)) same ∙ ap is_some connection_is
-          ∙ is_some-answered reply (connection_in first.conn connections) (fresh first.conn (subst (λ k. next ≤ k) same above)))
+      ∙ is_some-answered reply (connection_in first.conn connections) (fresh first.conn (subst (λ k. next ≤ k) same above)))
       (λ ne. ap is_some (others_are d ne) ∙ fresh d above)
       (cases_eq d first.conn)
 
@@ -378,7 +378,7 @@ pub open_places : (queues lent : List Queue) (es : List (ℕ × Connection)) (c 
     → OpenAnd (connection_in c es) (λ connection. connection.waits ≡ None → All HasPlace lent)
 open_places queues lent es c P same few seated is_open =
     elim (connection_in c es) as (λ o. connection_in c es ≡ o → OpenAnd o P
-        → OpenAnd o (λ connection. connection.waits ≡ None → All HasPlace lent)) [
+    → OpenAnd o (λ connection. connection.waits ≡ None → All HasPlace lent)) [
       | None ↦ λ at shut. shut
       | Some connection ↦ λ at fits none. subst (λ ss. All HasPlace ss) (sym same) (places_left queues es c connection few seated at none)
     ] refl is_open

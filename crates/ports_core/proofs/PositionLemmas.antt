@@ -49,11 +49,11 @@ module _ (keys : List (List ℕ)) (sizes : Sizes) (before events : List Event) (
       let slice_is : first_part.last ≡ h.slice = some_same (sym first_part.last_is ∙ h.was) in
       let second_part = run_serves t (event ∷ events) (step ∷ steps) old new first_part.last (mid, happens, goes_on) first_part.last_is in
       let plainly = answered_plainly opening_world (new_slice.1 ++ first_part.taken) (told_to t before_steps) first_part.last.0
-          first_part.last.1 first_part.serves in
+      first_part.last.1 first_part.serves in
       let waits : first_part.last.1 ≡ h.first ∷ h.rest = ap (λ (s : Slice). s.1) slice_is ∙ h.waited in
       let told_is : told_if t step.told.reply ≡ h.tell ∷ [] =
       ap (told_if t) h.told_is ∙ ap (λ p. if is_this_tenant t p then h.tell ∷ [] else []) h.of_tenant
-          ∙ ap (λ b. if b then h.tell ∷ [] else []) (eq-eqb t t refl) in
+      ∙ ap (λ b. if b then h.tell ∷ [] else []) (eq-eqb t t refl) in
       let later : List QueuedRequest = own_of (h.rest ++ second_part.taken) (told_to t steps) in
       let own : own_of (first_part.taken ++ second_part.taken) (told_to t (before_steps ++ step ∷ steps))
       ≡ plainly.answered ++ (if is_failure h.tell.reply.status then later else h.first ∷ later) =
@@ -62,10 +62,10 @@ module _ (keys : List (List ℕ)) (sizes : Sizes) (before events : List Event) (
       ∙ ap (λ ws. plainly.answered ++ own_of (ws ++ second_part.taken) (told_to t (step ∷ steps))) waits
       ∙ ap (λ ts. plainly.answered ++ own_of (h.first ∷ (h.rest ++ second_part.taken)) (ts ++ told_to t steps)) told_is in
       let takes : TakesIn keys t (book_of (new_state keys sizes)) (before ++ event ∷ events) (before_steps ++ step ∷ steps)
-          (first_part.taken ++ second_part.taken) =
+      (first_part.taken ++ second_part.taken) =
       first_part.takes_on (event ∷ events) (step ∷ steps) second_part.taken
       (subst (λ ks. TakesIn ks t (book_of old) (event ∷ events) (step ∷ steps) second_part.taken)
-          (run_keys before before_steps (new_state keys sizes) old begun) second_part.takes) in
+      (run_keys before before_steps (new_state keys sizes) old begun) second_part.takes) in
       let world_is : h.slice.0 ≡ plain_world opening_world plainly.answered = ap (λ (s : Slice). s.0) (sym slice_is) ∙ plainly.world_is in
       elim (h.answers) [
         | inl answer ↦ inl (record {
@@ -97,10 +97,10 @@ each_plain keys sizes before [] before_steps (step ∷ steps) old new begun run 
 each_plain keys sizes before (event ∷ events) before_steps [] old new begun run = tt
 each_plain keys sizes before (event ∷ events) before_steps (step ∷ steps) old new begun run =
     let more = each_plain keys sizes (before ++ event ∷ []) events (before_steps ++ step ∷ []) steps run.0 new
-        (run_more (new_state keys sizes) old run.0 before before_steps event step begun run.1) run.2 in (
+    (run_more (new_state keys sizes) old run.0 before before_steps event step begun run.1) run.2 in (
       plain_turn keys sizes before events before_steps steps event step old run.0 new begun run.1 run.2,
       subst (λ es. EachPlain (IsPlainOr503 keys es (before_steps ++ step ∷ steps)) events steps run.0 new run.2)
           (append_assoc before (event ∷ []) events)
           (subst (λ ss. EachPlain (IsPlainOr503 keys ((before ++ event ∷ []) ++ events) ss) events steps run.0 new run.2)
-              (append_assoc before_steps (step ∷ []) steps) more),
+          (append_assoc before_steps (step ∷ []) steps) more),
     )

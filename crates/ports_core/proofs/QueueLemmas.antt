@@ -52,7 +52,7 @@ queued_requests_join c tenant u request queue none =
     filter-append (λ (w : QueuedRequest). w.conn == c) queue (entering_of (Some tenant) c u request)
     ∙ ap (λ ws. ws ++ queued_requests_of c (entering_of (Some tenant) c u request)) none
     ∙ elim (tenant == u) as (λ b. queued_requests_of c (if b then queued_request c request ∷ [] else []) ≡
-        (if b then queued_request c request ∷ [] else [])) [
+    (if b then queued_request c request ∷ [] else [])) [
       | true ↦ ap (λ b. if b then queued_request c request ∷ [] else []) (eq-eqb c c refl)
       | false ↦ refl
     ]

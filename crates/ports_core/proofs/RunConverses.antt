@@ -41,7 +41,7 @@ ConversesSo lost keys Plain c came sent tells state = MatchBool lost (ConversesL
 only_fault : (keys : List (List ℕ)) (Plain : ℕ → QueuedRequest → ReplyMessage → Type 0) (c : ℕ) (event : Event) (step : Effect)
     (old mid : State) (came sent : List ℕ) (tells : List Tell) → loses c event ≡ true → IsSeen event step.told old mid
     → Stands keys Plain c came sent tells old → ConversesLost keys Plain c (came ++ came_in c event) (sent ++ sent_in c event step)
-        (tells ++ told_in c step.told.reply) mid
+    (tells ++ told_in c step.told.reply) mid
 only_fault keys Plain c (Open d) step old mid came sent tells lost s stands = absurd (false≢true lost)
 only_fault keys Plain c (Piece d bytes) step old mid came sent tells lost s stands = absurd (false≢true lost)
 only_fault keys Plain c (End d) step old mid came sent tells lost s stands = absurd (false≢true lost)
@@ -57,14 +57,14 @@ only_fault keys Plain c (Turn t) step old mid came sent tells lost s stands = ab
 moves_so : (was_lost : Bool) (keys : List (List ℕ)) (Plain : ℕ → QueuedRequest → ReplyMessage → Type 0) (c : ℕ) (event : Event)
     (step : Effect) (old mid : State) (came sent : List ℕ) (tells : List Tell)
     → (Stands keys Plain c came sent tells old → loses c event ≡ false → Stands keys Plain c (came ++ came_in c event)
-        (sent ++ sent_in c event step) (tells ++ told_in c step.told.reply) mid)
+    (sent ++ sent_in c event step) (tells ++ told_in c step.told.reply) mid)
     → LostMoves keys Plain c event step old mid → IsSeen event step.told old mid
     → ConversesSo was_lost keys Plain c came sent tells old → ConversesSo (was_lost || loses c event) keys Plain c (came ++ came_in c event)
-        (sent ++ sent_in c event step) (tells ++ told_in c step.told.reply) mid
+    (sent ++ sent_in c event step) (tells ++ told_in c step.told.reply) mid
 moves_so true keys Plain c event step old mid came sent tells alive lost s stands = lost came sent tells stands
 moves_so false keys Plain c event step old mid came sent tells alive lost s stands =
     elim (loses c event) as (λ b. loses c event ≡ b → ConversesSo b keys Plain c (came ++ came_in c event) (sent ++ sent_in c event step)
-        (tells ++ told_in c step.told.reply) mid) [
+    (tells ++ told_in c step.told.reply) mid) [
       | true ↦ λ now. only_fault keys Plain c event step old mid came sent tells now s stands
       | false ↦ λ goes. alive stands goes
     ] refl
@@ -74,7 +74,7 @@ run_moves : (lost : Bool) (keys : List (List ℕ)) (Plain : ℕ → QueuedReques
     (tells : List Tell) (events : List Event) (steps : List Effect) (old new : State) → keys_of old ≡ keys
     → (run : Run old events steps new) → EachPlain Plain events steps old new run → ConversesSo lost keys Plain c came sent tells old
     → ConversesSo (lost || is_lost_in c events) keys Plain c (came ++ came_on c events) (sent ++ sent_on c events steps)
-        (tells ++ told_on c steps) new
+    (tells ++ told_on c steps) new
 run_moves lost keys Plain c came sent tells [] [] old new keys_are same plain stands =
     subst (λ b. ConversesSo b keys Plain c (came ++ []) (sent ++ []) (tells ++ []) new) (sym (or-false lost))
     (subst (λ (s : State). ConversesSo lost keys Plain c (came ++ []) (sent ++ []) (tells ++ []) s) (sym same)
@@ -91,18 +91,18 @@ run_moves lost keys Plain c came sent tells (event ∷ events) (step ∷ steps) 
     (λ was goes. moves keys Plain c event step old mid keys_are goes h.allowed h.sent s plain.0 came sent tells was)
     (lost_moves keys Plain c event step old mid h.allowed h.sent s plain.0) s stands in
     let later = run_moves (lost || loses c event) keys Plain c (came ++ came_in c event) (sent ++ sent_in c event step)
-        (tells ++ told_in c step.told.reply) events steps mid new
+    (tells ++ told_in c step.told.reply) events steps mid new
     (s.keys ∙ keys_are) run.2 plain.1 now in
     subst (λ b. ConversesSo b keys Plain c (came ++ came_on c (event ∷ events)) (sent ++ sent_on c (event ∷ events) (step ∷ steps))
-        (tells ++ told_on c (step ∷ steps)) new) (or_assoc lost (loses c event) (is_lost_in c events))
+    (tells ++ told_on c (step ∷ steps)) new) (or_assoc lost (loses c event) (is_lost_in c events))
     (subst (λ bs. ConversesSo ((lost || loses c event) || is_lost_in c events) keys Plain c bs
-        (sent ++ sent_on c (event ∷ events) (step ∷ steps)) (tells ++ told_on c (step ∷ steps)) new)
-        (append_assoc came (came_in c event) (came_on c events))
+    (sent ++ sent_on c (event ∷ events) (step ∷ steps)) (tells ++ told_on c (step ∷ steps)) new)
+    (append_assoc came (came_in c event) (came_on c events))
     (subst (λ bs. ConversesSo ((lost || loses c event) || is_lost_in c events) keys Plain c ((came ++ came_in c event) ++ came_on c events)
-        bs (tells ++ told_on c (step ∷ steps)) new) (append_assoc sent (sent_in c event step) (sent_on c events steps))
+    bs (tells ++ told_on c (step ∷ steps)) new) (append_assoc sent (sent_in c event step) (sent_on c events steps))
     (subst (λ ts. ConversesSo ((lost || loses c event) || is_lost_in c events) keys Plain c ((came ++ came_in c event) ++ came_on c events)
-        ((sent ++ sent_in c event step) ++ sent_on c events steps) ts new)
-        (append_assoc tells (told_in c step.told.reply) (told_on c steps)) later)))
+    ((sent ++ sent_in c event step) ++ sent_on c events steps) ts new)
+    (append_assoc tells (told_in c step.told.reply) (told_on c steps)) later)))
 
 -- each tenant begins with an empty queue
 new_queue : (keys : List (List ℕ)) (u : ℕ) (queue : Queue) → slice_get (map (λ (key : List ℕ). let none : Queue = [] in none) keys) u
@@ -145,9 +145,11 @@ module _ (keys : List (List ℕ)) (c : ℕ) (events : List Event) (steps : List 
     waits = is.is_connection.waiting;
     cut = is.is_connection.talk.cut;
     served = λ goes some. subst (λ o. IsServedOut o is.is_connection.talk.end) (sym is.at) (is.idle some);
-    stays = subst (λ (o : Option Connection). IsLeftOfConnection keys o is.is_connection.waiting is.is_connection.talk.end) (sym is.at)
-        (λ here. is.is_connection.talk.left_is, waits_for keys is.connection.waits is.is_connection.waiting is.connection.pending
-        is.connection.stream.over is.is_connection.holds);
+    stays = subst (λ (o : Option Connection). IsLeftOfConnection keys o is.is_connection.waiting is.is_connection.talk.end) (sym is.at) (
+      λ here. is.is_connection.talk.left_is,
+      waits_for keys is.connection.waits is.is_connection.waiting is.connection.pending
+          is.connection.stream.over is.is_connection.holds,
+    );
   }
   alive_converses alive (inr is) = record {
     exchanges = is.talk.exchanges;
@@ -195,12 +197,12 @@ module _ (keys : List (List ℕ)) (c : ℕ) (events : List Event) (steps : List 
 pub run_converses : EachConnectionConverses
 run_converses keys sizes events steps service c run =
     let stands : ConversesSo (is_lost_in c events) keys (IsPlainOr503 keys events steps) c (came_on c events) (sent_on c events steps)
-        (told_on c steps) service =
+    (told_on c steps) service =
     run_moves false keys (IsPlainOr503 keys events steps) c [] [] [] events steps (new_state keys sizes) service refl run
-        (each_plain keys sizes [] events [] steps (new_state keys sizes) service refl run)
-        (begins keys sizes (IsPlainOr503 keys events steps) c) in
+    (each_plain keys sizes [] events [] steps (new_state keys sizes) service refl run)
+    (begins keys sizes (IsPlainOr503 keys events steps) c) in
     elim (is_lost_in c events) as (λ b. is_lost_in c events ≡ b → ConversesSo b keys (IsPlainOr503 keys events steps) c (came_on c events)
-        (sent_on c events steps) (told_on c steps) service → ConversesPlainly keys c events steps service) [
+    (sent_on c events steps) (told_on c steps) service → ConversesPlainly keys c events steps service) [
       | true ↦ λ lost at. lost_converses keys c events steps service lost at
       | false ↦ λ alive at. alive_converses keys c events steps service alive at
     ] refl stands

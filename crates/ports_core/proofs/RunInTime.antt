@@ -38,7 +38,7 @@ had_once t event told old mid (inl h) =
 had_once t event told old mid (inr h) =
     let after = option_and_then first_of (queue_at t old) in
     let is : turns_had t mid ≡ (had_by (job_after_turn after told (job_at t old))).turns =
-        ap (λ (job : Option TenantJob). (had_by job).turns) h.0.job.job_is in
+    ap (λ (job : Option TenantJob). (had_by job).turns) h.0.job.job_is in
     let few = had_after after told (job_at t old) in
     omega (arith, is, few)
 
@@ -84,5 +84,5 @@ run_in_time keys sizes events fits t world first rest before after more steps_be
     told_in_time t world first rest after steps_after mid later waits
     (begun_left keys sizes before steps_before mid t world first rest begun waits) goes_on silent
     (low (turns_had t mid) (turns_had t (new_state keys sizes)) (own_turns t after) (length before) (length after)
-        (length more) (length events)
+    (length more) (length events)
     (had_few t before steps_before (new_state keys sizes) mid begun) none (own_few t after) whole fits)

@@ -22,7 +22,7 @@ run_next old mid new events i event steps steps_after step lt at run happens is 
     let more = run_more old mid new (take i events) steps event step run happens in
     let P : List Event → List Effect → Type 0 = λ es ss. Run old es ss new in
     let front : take i events ++ event ∷ [] ≡ take (i + 1) events =
-        sym (take_more events i event lt ∙ ap (λ e. take i events ++ e ∷ []) (sym at)) in
+    sym (take_more events i event lt ∙ ap (λ e. take i events ++ e ∷ []) (sym at)) in
     subst (λ ss. P (take (i + 1) events) ss) (sym is) (subst (λ es. P es (steps ++ step ∷ [])) front more)
 
 -- a run begins with no event

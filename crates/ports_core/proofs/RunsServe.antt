@@ -47,8 +47,15 @@ run_serves t (event ∷ events) (step ∷ steps) old new slice run was =
     let more = run_serves t events steps run.0 new one.next run.2 one.next_is in
     record {
       taken = entering (keys_of old) (conn_of event) event_seen.taken t ++ more.taken;
-      takes = (event_seen.taken, book_of run.0, more.taken, event_seen.books, refl, subst (λ ks. TakesIn ks t (book_of run.0) events steps
-          more.taken) event_seen.keys more.takes);
+      takes = (
+        event_seen.taken,
+        book_of run.0,
+        more.taken,
+        event_seen.books,
+        refl,
+        subst (λ ks. TakesIn ks t (book_of run.0) events steps
+            more.taken) event_seen.keys more.takes,
+      );
       last = more.last;
       last_is = more.last_is;
       serves = one.serves more.taken (told_to t steps) more.last.0 more.last.1 more.serves;
@@ -60,7 +67,7 @@ run_serves t (event ∷ events) (step ∷ steps) old new slice run was =
         append_assoc (entering (keys_of old) (conn_of event) event_seen.taken t) more.taken further,
         subst (λ ks. TakesIn ks t (book_of run.0) (events ++ later) (steps ++ later_steps) (more.taken ++ further)) event_seen.keys
             (more.takes_on later later_steps further (subst (λ ks. TakesIn ks t (book_of new) later later_steps further)
-                (sym event_seen.keys) takes)),
+            (sym event_seen.keys) takes)),
       );
     }
 
@@ -75,7 +82,7 @@ pub begins_new : (keys : List (List ℕ)) (sizes : Sizes) (t : ℕ) → t < leng
 begins_new keys sizes t lt =
     let empty : Queue = [] in
     ap (λ w. sliced w (queue_at t (new_state keys sizes))) (slice_get-all opening_world keys t lt)
-        ∙ ap (sliced (Some opening_world)) (slice_get-all empty keys t lt)
+    ∙ ap (sliced (Some opening_world)) (slice_get-all empty keys t lt)
 
 -- as many as wait are left
 length-plain_run : (queued_requests : List QueuedRequest) (world : World) → length (plain_run world queued_requests)

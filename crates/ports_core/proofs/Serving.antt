@@ -17,7 +17,7 @@ Serves world queued_requests [] last rest = (last ≡ world) × (rest ≡ queued
 Serves world [] (tell ∷ tells) last rest = ⊥
 Serves world (queued_request ∷ queued_requests) (tell ∷ tells) last rest =
     (mid : World) × (tell.conn ≡ queued_request.conn) × AnswersRequest world queued_request.request tell.reply mid
-        × Serves mid queued_requests tells last rest
+    × Serves mid queued_requests tells last rest
 
 -- the plain service fails nothing
 pub answer-fine : (world : World) (request : RequestMessage) (reply : ReplyMessage) (after : World)
@@ -36,19 +36,19 @@ told_plainly world [] (tell ∷ tells) last rest serves = absurd serves
 told_plainly world (queued_request ∷ queued_requests) (tell ∷ tells) last rest (mid, conn_is, inl plainly, serves) =
     let fine : is_failure tell.reply.status ≡ false = answer-fine world queued_request.request tell.reply mid plainly in
     let P : Bool → Type 0 = λ b. (if b then answers_of tells else (tell.conn, tell.reply) ∷ answers_of tells) ++ plain_run last rest ≡
-        plain_run world (if b then own_of queued_requests tells else queued_request ∷ own_of queued_requests tells) in
+    plain_run world (if b then own_of queued_requests tells else queued_request ∷ own_of queued_requests tells) in
     let both : P false =
     ap (λ xs. (tell.conn, tell.reply) ∷ xs) (told_plainly mid queued_requests tells last rest serves)
     ∙ ap (λ (a : Served). (tell.conn, a.0) ∷ plain_run a.1 (own_of queued_requests tells)) (sym plainly)
     ∙ ap (λ c. (c, (plain_answer world queued_request.request).0) ∷ plain_run (plain_answer world queued_request.request).1
-        (own_of queued_requests tells)) conn_is in
+    (own_of queued_requests tells)) conn_is in
     subst P (sym fine) both
 told_plainly world (queued_request ∷ queued_requests) (tell ∷ tells) last rest (mid, conn_is, inr failed, serves) =
     let failure : is_failure tell.reply.status ≡ true = ap (λ r. is_failure r.status) failed.0 in
     let P : Bool → Type 0 = λ b. (if b then answers_of tells else (tell.conn, tell.reply) ∷ answers_of tells) ++ plain_run last rest ≡
-        plain_run world (if b then own_of queued_requests tells else queued_request ∷ own_of queued_requests tells) in
+    plain_run world (if b then own_of queued_requests tells else queued_request ∷ own_of queued_requests tells) in
     let both : P true = told_plainly mid queued_requests tells last rest serves
-        ∙ ap (λ f. plain_run f (own_of queued_requests tells)) failed.1 in
+    ∙ ap (λ f. plain_run f (own_of queued_requests tells)) failed.1 in
     subst P (sym failure) both
 
 -- the requests that were answered other than by 503
@@ -65,11 +65,23 @@ pub answered_plainly : (world : World) (queued_requests : List QueuedRequest) (t
     → Serves world queued_requests tells last rest
     → IsAnsweredPlainly world queued_requests tells last rest
 answered_plainly world [] [] last rest serves =
-    record { answered = []; own = sym serves.1; own_on = λ more later. ap (λ ws. own_of (ws ++ more) later) (sym serves.1); replies =
-    refl; world_is = serves.0 }
+    record {
+      answered = [];
+      own = sym serves.1;
+      own_on = λ more later. ap (λ ws. own_of (ws ++ more) later) (sym serves.1);
+      replies =
+          refl;
+      world_is = serves.0;
+    }
 answered_plainly world (queued_request ∷ queued_requests) [] last rest serves =
-    record { answered = []; own = sym serves.1; own_on = λ more later. ap (λ ws. own_of (ws ++ more) later) (sym serves.1); replies =
-    refl; world_is = serves.0 }
+    record {
+      answered = [];
+      own = sym serves.1;
+      own_on = λ more later. ap (λ ws. own_of (ws ++ more) later) (sym serves.1);
+      replies =
+          refl;
+      world_is = serves.0;
+    }
 answered_plainly world [] (tell ∷ tells) last rest serves = absurd serves
 answered_plainly world (queued_request ∷ queued_requests) (tell ∷ tells) last rest (mid, conn_is, inl plainly, serves) =
     let fine : is_failure tell.reply.status ≡ false = answer-fine world queued_request.request tell.reply mid plainly in
@@ -84,7 +96,7 @@ answered_plainly world (queued_request ∷ queued_requests) (tell ∷ tells) las
           ∙ ap (λ xs. (tell.conn, tell.reply) ∷ xs) more.replies
           ∙ ap (λ (a : Served). (tell.conn, a.0) ∷ plain_run a.1 more.answered) (sym plainly)
           ∙ ap (λ c. (c, (plain_answer world queued_request.request).0) ∷ plain_run
-              (plain_answer world queued_request.request).1 more.answered) conn_is;
+          (plain_answer world queued_request.request).1 more.answered) conn_is;
       world_is = more.world_is ∙ ap (λ (a : Served). plain_world a.1 more.answered) (sym plainly);
     }
 answered_plainly world (queued_request ∷ queued_requests) (tell ∷ tells) last rest (mid, conn_is, inr failed, serves) =

@@ -65,7 +65,7 @@ enters_serve t c event told taken old new slice of_conn h was =
       next_is = h.slices t ∙ ap (option_map (with_requests queued_requests)) was;
       serves = λ more tells last rest s.
           quietly t c (keys_of old) told taken slice more tells last rest
-              (slice.1 ++ (entering (keys_of old) (conn_of event) taken t ++ more)) (to_no_tenant t told.reply h.to_none)
+          (slice.1 ++ (entering (keys_of old) (conn_of event) taken t ++ more)) (to_no_tenant t told.reply h.to_none)
           (subst (λ n. Serves slice.0 (slice.1 ++ (entering (keys_of old) n taken t ++ more)) tells last rest) (sym of_conn)
           (subst (λ ws. Serves slice.0 ws tells last rest) (append_assoc slice.1 queued_requests more) s));
     }
@@ -87,18 +87,18 @@ module _ (t u : ℕ) (told : Told) (taken : Taken) (old new : State) (slice : Sl
         next_is = ap (λ n. slice_of n new) same ∙ h.slice_is;
         serves = λ more tells last rest s.
             let answers : AnswersRequest slice.0 h.first.request h.tell.reply h.world =
-                subst (λ (k : Slice). AnswersRequest k.0 h.first.request h.tell.reply h.world) first_slice h.answers in
+            subst (λ (k : Slice). AnswersRequest k.0 h.first.request h.tell.reply h.world) first_slice h.answers in
             let all : Serves slice.0 ((h.first ∷ h.rest) ++ more) (h.tell ∷ tells) last rest = (h.world, h.to_asker, answers, s) in
             subst (λ k. Serves slice.0 (slice.1 ++ (entering (keys_of old) 0 k t ++ more)) (told_if t told.reply ++ tells) last rest)
-                (sym h.nothing)
+            (sym h.nothing)
             (subst (λ ts. Serves slice.0 (slice.1 ++ more) (ts ++ tells) last rest) (sym tells_is)
-                (subst (λ ws. Serves slice.0 (ws ++ more) (h.tell ∷ tells) last rest) (sym waits) all));
+            (subst (λ ws. Serves slice.0 (ws ++ more) (h.tell ∷ tells) last rest) (sym waits) all));
       }
 
   other_turn : t ≢ u → IsServed t (Turn u) told taken old new slice
   other_turn apart =
       let tells_is : told_if t told.reply ≡ [] = tells_of ∙ ap (λ b. if b then h.tell ∷ [] else [])
-          (other_number u t (λ e. apart (sym e))) in
+      (other_number u t (λ e. apart (sym e))) in
       record {
         next = slice;
         next_is = h.others t apart ∙ was;

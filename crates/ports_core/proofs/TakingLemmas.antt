@@ -36,7 +36,7 @@ taken_of_ready connection taken stream ready takes =
 pub taken_of_busy : (connection : Connection) → is_ready connection ≡ false → IsTaken connection Nothing connection.stream
 taken_of_busy connection busy =
     let P : Bool → Type 0 = λ b. MatchBool b (TakesOff connection.stream Nothing connection.stream) ((Nothing ≡ Nothing)
-        × (connection.stream ≡ connection.stream)) in
+    × (connection.stream ≡ connection.stream)) in
     subst P (sym busy) (refl, refl)
 
 -- what a stream answers
@@ -54,7 +54,7 @@ module _ (keys : List (List ℕ)) (c : ℕ) (queues : List Queue) where
   pub joins_none : (taken : Taken) → ((t : ℕ) → entering keys c taken t ≡ []) → Joins keys c taken queues queues
   joins_none taken none = λ t.
       nothing_after (slice_get queues t)
-          ∙ ap (λ (ws : Queue). option_map (λ (queue : Queue). queue ++ ws) (slice_get queues t)) (sym (none t))
+      ∙ ap (λ (ws : Queue). option_map (λ (queue : Queue). queue ++ ws) (slice_get queues t)) (sym (none t))
 
   -- a request joins the queue of its tenant
   pub joins_at : (request : RequestMessage) (place : ℕ) (queue after : Queue) → tenant_of keys request.key ≡ Some place
@@ -64,19 +64,19 @@ module _ (keys : List (List ℕ)) (c : ℕ) (queues : List Queue) where
       let queued_request : QueuedRequest = record { conn = c; request = request } in
       let behind : Queue → Option Queue = λ ws. option_map (λ (q : Queue). q ++ ws) (slice_get queues t) in
       let enters : entering keys c (Whole request) t ≡ (if place == t then queued_request ∷ [] else []) =
-          ap (λ p. entering_of p c t request) key_is in
+      ap (λ p. entering_of p c t request) key_is in
       ⊎_elim
       (λ same.
       let here : slice_get (set queues place after) t ≡ Some after = ap (slice_get (set queues place after)) same
-          ∙ slice_get-set_same queues place after within in
+      ∙ slice_get-set_same queues place after within in
       let there : slice_get queues t ≡ Some queue = ap (slice_get queues) same ∙ was in
       let one : entering keys c (Whole request) t ≡ queued_request ∷ [] = enters ∙ ap (λ b. if b then queued_request ∷ [] else [])
-          (eq-eqb place t (sym same)) in
+      (eq-eqb place t (sym same)) in
       here ∙ ap Some after_is ∙ ap (λ (o : Option Queue). option_map (λ (q : Queue). q ++ queued_request ∷ []) o)
-          (sym there) ∙ ap behind (sym one))
+      (sym there) ∙ ap behind (sym one))
       (λ apart.
       let none : entering keys c (Whole request) t ≡ [] = enters ∙ ap (λ b. if b then queued_request ∷ [] else [])
-          (other_number place t (λ e. apart (sym e))) in
+      (other_number place t (λ e. apart (sym e))) in
       slice_get-set_other queues place t after apart ∙ nothing_after (slice_get queues t) ∙ ap behind (sym none))
       (cases_eq t place)
 
@@ -91,7 +91,7 @@ module _ (keys : List (List ℕ)) (c : ℕ) (queues : List Queue) where
   pub takes_answer : (connection : Connection) (stream : Incoming) (answer : Taking) (told : Option Tell) (new : Connection)
       (after : List Queue) → is_ready connection ≡ true → TakesOrLoses connection.stream answer stream
       → told ≡ refused_at_once keys c (taken_of answer) → new ≡ connection_after keys (taken_of answer)
-          (record connection { stream = stream }) → Joins keys c (taken_of answer) queues after
+      (record connection { stream = stream }) → Joins keys c (taken_of answer) queues after
       → (taken : Taken) × TakesNext keys c taken told connection new × Joins keys c taken queues after
   takes_answer connection stream answer told new after ready takes told_is connection_is joins = (
     taken_of answer,

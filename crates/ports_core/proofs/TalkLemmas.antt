@@ -64,7 +64,7 @@ next_cut : (c : ℕ) (came : List ℕ) (requests : List RequestMessage) (unread 
     → NextCut c came requests request (behind request rest)
 next_cut c came requests unread request rest begins stands =
     elim (request.close) as (λ b. request.close ≡ b
-        → NextCut c came requests request (if b then ended else record { unread = rest; over = false })) [
+    → NextCut c came requests request (if b then ended else record { unread = rest; over = false })) [
       | true ↦ λ closing. record {
         end = closed;
         left_is = refl;
@@ -193,7 +193,7 @@ module _ (keys : List (List ℕ)) (Plain : ℕ → QueuedRequest → ReplyMessag
     cut_next =
         next_cut c came (requests_in talk.exchanges) left.unread request takes.rest
         (subst (λ rs. Begins came rs left.unread) (append-nil (requests_in talk.exchanges)) (begins pending [] left talk takes.begun))
-            takes.stands
+        takes.stands
 
   -- a request is taken, and waits
   pub talk_waits : (left new : Incoming) (request : RequestMessage) → Removes left request new
@@ -215,7 +215,7 @@ module _ (keys : List (List ℕ)) (Plain : ℕ → QueuedRequest → ReplyMessag
   pub talk_answered : (left : Incoming) (request : RequestMessage) (tell : Tell)
       → IsAnsweredOn keys Plain c (record { request = request; tell = tell })
       → Talk keys Plain c came sent tells [] (request ∷ []) left → Talk keys Plain c came sent (tells ++ tell ∷ [])
-          (reply_text tell.reply request.close) [] left
+      (reply_text tell.reply request.close) [] left
   talk_answered left request tell answers talk =
       let exchange : Exchange = record { request = request; tell = tell } in
       let none = talk.still (some_waits request) in
@@ -235,13 +235,13 @@ module _ (keys : List (List ℕ)) (Plain : ℕ → QueuedRequest → ReplyMessag
   pub talk_told : (left new : Incoming) (request : RequestMessage) (tell : Tell) → Removes left request new
       → IsAnsweredOn keys Plain c (record { request = request; tell = tell })
       → Talk keys Plain c came sent tells [] [] left → Talk keys Plain c came sent (tells ++ tell ∷ [])
-          (reply_text tell.reply request.close) [] new
+      (reply_text tell.reply request.close) [] new
   talk_told left new request tell takes answers talk = talk_answered new request tell answers (talk_waits left new request takes talk)
 
   -- a head refusal is taken and told at once
   pub talk_refused : (left new : Incoming) (fault : HeadFault) → left.over ≡ false → Refuses left.unread fault → new ≡ ended
       → Talk keys Plain c came sent tells [] [] left → Talk keys Plain c came sent (tells ++ at_once c (fault_reply fault) ∷ [])
-          (reply_text (fault_reply fault) true) [] new
+      (reply_text (fault_reply fault) true) [] new
   talk_refused left new fault open_end refuses is talk = record {
     exchanges = talk.exchanges;
     end = refused fault;

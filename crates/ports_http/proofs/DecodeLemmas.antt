@@ -23,8 +23,13 @@ pub request_takes : (stream : List ℕ) (request : RequestMessage) (rest : List 
     → length rest < length stream
 request_takes stream request rest at =
     let whole = ap length at.stands.reads.1 in
-    omega (arith, whole, head_has_bytes at.head, length-append (print_request at.head) (request.body ++ rest),
-        length-append request.body rest)
+    omega (
+      arith,
+      whole,
+      head_has_bytes at.head,
+      length-append (print_request at.head) (request.body ++ rest),
+      length-append request.body rest,
+    )
 
 -- the bytes unread, and one where the stream isn't over
 abbrev pub left_of : Incoming → ℕ

@@ -200,7 +200,7 @@ begins_when bytes (suc k) some inside feed none other full =
     let here : k < length bytes = omega arith in
     let line = drop-cons bytes (suc k) 0 inside in
     let first = All-head (λ b. not (b == line_feed) ≡ true) (slice_index bytes (suc k)) (drop (suc (suc k)) bytes)
-        (subst NoFeed line none) in
+    (subst NoFeed line none) in
     record {
       before = take k bytes;
       line = drop (suc k) bytes;

@@ -39,7 +39,7 @@ from-here text at inside some so_far =
     let rest = drop_more text at 0 inside in
     let none : plain_length (drop at text) ≡ 0 =
     ap plain_length rest ∙ plain_length-here (get_or text at 0) (drop (at + 1) text)
-        (ap (λ t. is_some (operator_at t)) (sym rest) ∙ some) in
+    (ap (λ t. is_some (operator_at t)) (sym rest) ∙ some) in
     omega arith
 
 pub from-end : (text : List ℕ) (at : ℕ) → length text ≤ at → at ≤ length text → plain_length text ≡ at + plain_length (drop at text)
@@ -76,7 +76,7 @@ begins_low : (byte : ℕ) (rest : List ℕ) → is_some (operator_at (byte ∷ r
 begins_low byte rest some =
     let text = byte ∷ rest in
     by_tests {X = OperatorAt} (begins (codes "!=") text) (begins (codes ">=") text) (begins (codes "=") text) (begins (codes "~") text)
-        (begins (codes "<") text) _ _ _ _ _ some
+    (begins (codes "<") text) _ _ _ _ _ some
     (λ is. first_byte 33 byte _ is (omega arith))
     (λ is. first_byte 62 byte _ is (omega arith))
     (λ is. first_byte 61 byte _ is (omega arith))

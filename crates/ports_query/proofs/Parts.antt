@@ -35,7 +35,7 @@ unfolding has_part
 found_after [] part behind = from_front (part ++ behind) part (begins_with part behind)
 found_after (byte ∷ before) part behind =
     or_right (starts_with nat_eq (byte ∷ (before ++ (part ++ behind))) part) (has_part part (before ++ (part ++ behind)))
-        (found_after before part behind)
+    (found_after before part behind)
 
 -- it is found where it is
 pub part_found : (text part : List ℕ) → HasSubslice text part → has_part part text ≡ true

@@ -18,7 +18,7 @@ in_front-one front one (Some more) = ap Some (sym (append_assoc front (one ∷ [
 
 with_first : (text : List ℕ) (texts : List (List ℕ)) (condition : Option ConditionValue) → condition_of text ≡ condition
     → conditions_of (text ∷ texts) ≡ option_and_then (λ first. option_map (λ conditions. first ∷ conditions) (conditions_of texts))
-        condition
+    condition
 unfolding conditions_of
 with_first text texts condition is = ap (option_and_then (λ first. option_map (λ conditions. first ∷ conditions) (conditions_of texts))) is
 
@@ -36,7 +36,7 @@ at_place texts i d inside =
 pub read-fails : (texts : List (Bor (List ℕ))) (i : ℕ) (d : Bor (List ℕ)) (front : List ConditionValue) (read : Option Condition)
     → i < length texts → read ≡ None
     → option_map condition_seen read ≡ condition_of (get_or texts i d).now → conditions_of (now_all texts) ≡ in_front front
-        (conditions_of (drop i (now_all texts)))
+    (conditions_of (drop i (now_all texts)))
     → None ≡ conditions_of (now_all texts)
 read-fails texts i d front read inside none is so_far =
     let nothing : condition_of (get_or texts i d).now ≡ None = sym is ∙ ap (option_map condition_seen) none in
@@ -56,7 +56,7 @@ read-more texts i d conditions now one read inside some is pushed so_far =
     ∙ ap (in_front (map condition_seen conditions)) (with_first (get_or texts i d).now rest (Some (condition_seen one)) found)
     ∙ in_front-one (map condition_seen conditions) (condition_seen one) (conditions_of rest)
     ∙ ap (λ front. in_front front (conditions_of rest))
-        (sym (ap (map condition_seen) pushed ∙ map-append condition_seen conditions (one ∷ [])))
+    (sym (ap (map condition_seen) pushed ∙ map-append condition_seen conditions (one ∷ [])))
 
 -- all are read
 pub read-ends : (texts : List (Bor (List ℕ))) (i : ℕ) (front : List ConditionValue) → length texts ≤ i
@@ -65,7 +65,7 @@ pub read-ends : (texts : List (Bor (List ℕ))) (i : ℕ) (front : List Conditio
 unfolding conditions_of
 read-ends texts i front past so_far =
     sym (so_far ∙ ap (λ rest. in_front front (conditions_of rest)) (drop_all i (now_all texts) (omega (arith, past, length-map texts now)))
-        ∙ ap Some (append-nil front))
+    ∙ ap Some (append-nil front))
   where
     now : Bor (List ℕ) → List ℕ
     now text = text.now

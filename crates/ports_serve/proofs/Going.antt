@@ -25,12 +25,23 @@ use Rattle.ports_serve.specs.CourseReports.{Brought, Rested}
 
 joined_courses-assoc : (a b c : Course) → joined_courses (joined_courses a b) c ≡ joined_courses a (joined_courses b c)
 joined_courses-assoc a b c =
-    ap (λ (calls : List Call). record { calls = calls; events = (a.events ++ b.events) ++ c.events; steps = (a.steps ++ b.steps) ++ c.steps
-        }) (append_assoc a.calls b.calls c.calls)
-    ∙ ap (λ (events : List Event). record { calls = a.calls ++ (b.calls ++ c.calls); events = events; steps = (a.steps ++ b.steps) ++
-        c.steps }) (append_assoc a.events b.events c.events)
-    ∙ ap (λ (steps : List Effect). record { calls = a.calls ++ (b.calls ++ c.calls); events = a.events ++ (b.events ++ c.events); steps =
-        steps }) (append_assoc a.steps b.steps c.steps)
+    ap (λ (calls : List Call). record {
+      calls = calls;
+      events = (a.events ++ b.events) ++ c.events;
+      steps = (a.steps ++ b.steps) ++ c.steps;
+    }) (append_assoc a.calls b.calls c.calls)
+    ∙ ap (λ (events : List Event). record {
+      calls = a.calls ++ (b.calls ++ c.calls);
+      events = events;
+      steps = (a.steps ++ b.steps) ++
+          c.steps;
+    }) (append_assoc a.events b.events c.events)
+    ∙ ap (λ (steps : List Effect). record {
+      calls = a.calls ++ (b.calls ++ c.calls);
+      events = a.events ++ (b.events ++ c.events);
+      steps =
+          steps;
+    }) (append_assoc a.steps b.steps c.steps)
 
 or_swap : (a b c d : Bool) → ((a || b) || (c || d)) ≡ ((a || c) || (b || d))
 or_swap true b c d = refl
@@ -97,7 +108,7 @@ pub next_item : (all items : List ℕ) (i : ℕ) → items ≡ all → i < lengt
 next_item all items i same within =
     let next : suc i ≡ i + 1 = omega arith in
     subst (λ xs. drop i xs ≡ get_or items i 0 ∷ drop (i + 1) xs) same (drop-cons items i 0 within
-        ∙ ap (λ n. get_or items i 0 ∷ drop n items) next)
+    ∙ ap (λ n. get_or items i 0 ∷ drop n items) next)
 
 pub no_item : (all items : List ℕ) (i : ℕ) → items ≡ all → length items ≤ i → drop i all ≡ []
 no_item all items i same past = subst (λ xs. drop i xs ≡ []) same (drop_all i items past)
@@ -136,8 +147,12 @@ module _ {W : Type 0} (After : W → Call → W → Type 0) where
   happens_on old mid new state after_state event told came brought happens refused closed =
       let step : Effect = record { told = told; sent = sent_by event state } in
       record {
-        course = record { calls = map Shut (unopened event told.refused) ++ map Shut (option_to_list told.closed); events =
-            event ∷ []; steps = step ∷ [] };
+        course = record {
+          calls = map Shut (unopened event told.refused) ++ map Shut (option_to_list told.closed);
+          events =
+              event ∷ [];
+          steps = step ∷ [];
+        };
         goes = (record { step = step; happens = happens; course_is = refl }, brought);
         wire = leads-append old mid new (map Shut (unopened event told.refused)) (map Shut (option_to_list told.closed)) refused closed;
         run = (after_state, happens, refl);
@@ -147,8 +162,13 @@ module _ {W : Type 0} (After : W → Call → W → Type 0) where
   pub goes_as : {P Q : State → Course → State → Type 0} → (old new : W) (state after_state : State)
       → ((course : Course) → P state course after_state → Q state course after_state)
       → Goes After P old state new after_state → Goes After Q old state new after_state
-  goes_as old new state after_state wider went = record { course = went.course; goes = wider went.course went.goes; wire =
-      went.wire; run = went.run }
+  goes_as old new state after_state wider went = record {
+    course = went.course;
+    goes = wider went.course went.goes;
+    wire =
+        went.wire;
+    run = went.run;
+  }
 
   -- a call, and then what its answer makes happen, which is told of the whole
   pub after_call_brought : {P Q : State → Course → State → Type 0}
@@ -168,11 +188,17 @@ module _ {W : Type 0} (After : W → Call → W → Type 0) where
       → After old (Accept n idle outcome) new → Goes After (Brought false (Accepts idle)) old state new state
   accepts_none idle old new state n outcome is none after =
       subst (λ m. opening m outcome ≡ None → After old (Accept m idle outcome) new → Goes After (Brought false (Accepts idle)) old
-          state new state) (sym is)
+      state new state) (sym is)
       (λ none after. record {
         course = called (Accept (next_of state) idle outcome);
-        goes = ((outcome, subst (λ event. Follows (Accept (next_of state) idle outcome) event state
-            (called (Accept (next_of state) idle outcome)) state) (sym none) (refl, refl)), refl);
+        goes = (
+          (
+            outcome,
+            subst (λ event. Follows (Accept (next_of state) idle outcome) event state
+                (called (Accept (next_of state) idle outcome)) state) (sym none) (refl, refl),
+          ),
+          refl,
+        );
         wire = (new, after, refl);
         run = refl;
       }) none after
@@ -183,7 +209,7 @@ module _ {W : Type 0} (After : W → Call → W → Type 0) where
       → Goes After (Brought came (Accepts idle)) old state new after_state
   accepts_client idle came old mid new state after_state n client is after went =
       subst (λ m. After old (Accept m idle (Got client)) mid → Goes After (Brought came (HappensOn (events.Open m))) mid state new
-          after_state → Goes After (Brought came (Accepts idle)) old state new after_state) (sym is)
+      after_state → Goes After (Brought came (Accepts idle)) old state new after_state) (sym is)
       (λ after went. after_call_brought came old mid new state after_state (Accept (next_of state) idle (Got client))
       (λ behind happens. (Got client, (behind, happens, refl))) after went)
       after went
@@ -197,8 +223,13 @@ module _ {W : Type 0} (After : W → Call → W → Type 0) where
       → After old (Read c size Nothing) new → Goes After (Brought false (ReadsOnce c)) old state new state
   reads_nothing c size old new state room is after =
       let asked : ℕ = min (room_at c state) most_at_once in
-      record { course = called (Read c asked Nothing); goes = (inr (room, Nothing, (refl, refl)), refl); wire =
-          (new, subst (λ n. After old (Read c n Nothing) new) is after, refl); run = refl }
+      record {
+        course = called (Read c asked Nothing);
+        goes = (inr (room, Nothing, (refl, refl)), refl);
+        wire =
+            (new, subst (λ n. After old (Read c n Nothing) new) is after, refl);
+        run = refl;
+      }
 
   pub reads_piece : (c size : ℕ) (came : Bool) (bytes : List ℕ) (old mid new : W) (state after_state : State) → 0 < room_at c state
       → size ≡ min (room_at c state) most_at_once
@@ -238,8 +269,15 @@ module _ {W : Type 0} (After : W → Call → W → Type 0) where
       → After old (Write c bytes outcome) new → Goes After (Brought false (Writes c)) old state new state
   writes_nothing c bytes outcome old new state is some none after = record {
     course = called (Write c (pending_at c state) outcome);
-    goes = (inr (subst (λ bs. bs ≢ []) is some, outcome, subst (λ event. Follows (Write c (pending_at c state) outcome) event state
-        (called (Write c (pending_at c state) outcome)) state) (sym none) (refl, refl)), refl);
+    goes = (
+      inr (
+        subst (λ bs. bs ≢ []) is some,
+        outcome,
+        subst (λ event. Follows (Write c (pending_at c state) outcome) event state
+            (called (Write c (pending_at c state) outcome)) state) (sym none) (refl, refl),
+      ),
+      refl,
+    );
     wire = (new, subst (λ bs. After old (Write c bs outcome) new) is after, refl);
     run = refl;
   }
@@ -247,7 +285,7 @@ module _ {W : Type 0} (After : W → Call → W → Type 0) where
   pub writes_count : (c count : ℕ) (came : Bool) (bytes : List ℕ) (old mid new : W) (state after_state : State)
       → bytes ≡ pending_at c state → bytes ≢ []
       → After old (Write c bytes (Got count)) mid → Goes After (Brought came (HappensOn (events.Wrote c (Some count)))) mid state new
-          after_state → Goes After (Brought came (Writes c)) old state new after_state
+      after_state → Goes After (Brought came (Writes c)) old state new after_state
   writes_count c count came bytes old mid new state after_state is some after went =
       after_call_brought came old mid new state after_state (Write c (pending_at c state) (Got count))
       (λ behind happens. inr (subst (λ bs. bs ≢ []) is some, Got count, (behind, happens, refl)))
@@ -340,11 +378,11 @@ module _ {W : Type 0} (After : W → Call → W → Type 0) where
       rests ∙ ap (λ x. not (x || waits s4)) (or_right c1 c2 c3 c4
           ∙ both_bring c1 (c2 || (c3 || c4)) a.course (joined_courses b.course (joined_courses c.course d.course)) a.goes.1
           (both_bring c2 (c3 || c4) b.course (joined_courses c.course d.course) b.goes.1
-              (both_bring c3 c4 c.course d.course c.goes.1 d.goes.1))),
+          (both_bring c3 c4 c.course d.course c.goes.1 d.goes.1))),
     );
     wire = leads-append w0 w1 w4 a.course.calls (b.course.calls ++ (c.course.calls ++ d.course.calls)) a.wire
         (leads-append w1 w2 w4 b.course.calls (c.course.calls ++ d.course.calls) b.wire
-            (leads-append w2 w3 w4 c.course.calls d.course.calls c.wire d.wire));
+        (leads-append w2 w3 w4 c.course.calls d.course.calls c.wire d.wire));
     run = run-append s0 s1 s4 a.course.events (b.course.events ++ (c.course.events ++ d.course.events)) a.course.steps
         (b.course.steps ++ (c.course.steps ++ d.course.steps)) a.run
         (run-append s1 s2 s4 b.course.events (c.course.events ++ d.course.events) b.course.steps (c.course.steps ++ d.course.steps) b.run

@@ -34,8 +34,12 @@ AreUpTo bits greatest = (2 ^ bits ≡ suc greatest) × (greatest < 2 ^ 64)
 number_read : (E : Type 0) (bits greatest : ℕ) (text : Text) (n : ℕ) → AreUpTo bits greatest → ParsesUnsigned {E = E} bits 10 text (Ok n)
     → number_up_to greatest text ≡ Some n
 number_read E bits greatest text n width h =
-    chosen _ _ (Accepts-accepts false (parser.Unsigned 0 greatest) text (h.0.0, omega (arith, h.0.1, width.0, width.1), omega arith,
-        omega (arith, h.0.1, width.0))) ∙ ap Some (sym h.1)
+    chosen _ _ (Accepts-accepts false (parser.Unsigned 0 greatest) text (
+      h.0.0,
+      omega (arith, h.0.1, width.0, width.1),
+      omega arith,
+      omega (arith, h.0.1, width.0),
+    )) ∙ ap Some (sym h.1)
 
 number_unread : {E : Type 0} (bits greatest : ℕ) (text : Text) (e : E) → AreUpTo bits greatest → ParsesUnsigned bits 10 text (Err e)
     → number_up_to greatest text ≡ None

@@ -102,7 +102,7 @@ pub failed_run : {W A : Type 0} (config : Config) (script : Script) (held holds 
 failed_run config script held holds (Ok x) ran events e fit paired run plainly converses early h = h
 failed_run config script held holds (Err failure) (Ok done) events e fit paired run plainly converses early h =
     events_unprinted config script held holds done.steps.items done.service failure
-        (inl (happens config script done.steps.items done.service events e run plainly converses)) h
+    (inl (happens config script done.steps.items done.service events e run plainly converses)) h
 failed_run config script held holds (Err failure) (Err (run.NotAllowed index done)) events e fit paired run plainly
     converses early (inl h) =
     let stops = subst (λ (ran : List Event). StopsAtEvent config ran index done.steps.items done.service) e early in
@@ -113,7 +113,7 @@ failed_run config script held holds (Err failure) (Err (run.NotAllowed index don
     subst (EventsEnd config script held holds) (sym is) (prints_up_to config script held holds index done paired stops appends)
 failed_run {W} config script held holds (Err failure) (Err (run.New why)) events e fit paired run plainly converses early (is, kept) =
     subst (EventsEnd config script held holds) (sym is)
-        (unbegun config script held holds why fit (unfit_only W config events why early) kept)
+    (unbegun config script held holds why fit (unfit_only W config events why early) kept)
 failed_run config script held holds (Err failure) (Err (run.Memory _)) events e fit paired run plainly converses early (is, kept) =
     subst (EventsEnd config script held holds) (sym is) kept
 

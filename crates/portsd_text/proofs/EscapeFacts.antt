@@ -22,7 +22,7 @@ IsShorter (Some first) size = length first.1 ≤ size
 IsShorter-hex_byte : (high low : ℕ) (rest : List ℕ) (size : ℕ) → length rest ≤ size → IsShorter (hex_byte high low rest) size
 IsShorter-hex_byte high low rest size h =
     elim (hex_value high) as (λ v. IsShorter (option_and_then (λ upper. option_map (λ lower. (upper * 16 + lower, rest)) (hex_value low)) v)
-        size) [
+    size) [
       | None ↦ tt
       | Some upper ↦ elim (hex_value low) as (λ v. IsShorter (option_map (λ lower. (upper * 16 + lower, rest)) v) size)
           [ None ↦ tt | Some lower ↦ h ]
@@ -50,7 +50,7 @@ IsShorter-escape_of (letter ∷ rest) size h =
 pub IsShorter-first_meant : (byte : ℕ) (rest : List ℕ) → IsShorter (first_meant byte rest) (length rest)
 IsShorter-first_meant byte rest =
     IsShorter-cond (eqb byte 92) (escape_of rest) (Some (byte, rest)) (length rest) (IsShorter-escape_of rest (length rest) (omega arith))
-        (omega arith)
+    (omega arith)
 
 -- what a first byte is before
 abbrev in_front : ℕ → Option (ℕ × List ℕ) → Option (List ℕ)
@@ -68,7 +68,7 @@ within_enough zero m (byte ∷ rest) h k = absurd (omega arith)
 within_enough (suc n) zero (byte ∷ rest) h k = absurd (omega arith)
 within_enough (suc n) (suc m) (byte ∷ rest) h k =
     in_front-same n m (first_meant byte rest) (length rest) (IsShorter-first_meant byte rest)
-        (λ text l. within_enough n m text (omega arith) (omega arith))
+    (λ text l. within_enough n m text (omega arith) (omega arith))
 
 -- what a first byte is before
 abbrev before_later : Option (ℕ × List ℕ) → Option (List ℕ)
@@ -120,8 +120,8 @@ unescaped-at : (text : List ℕ) (at : ℕ) → position is_backslash text ≡ S
 unescaped-at text at found =
     let place = position-some is_backslash text at found in
     let begins : unescaped (drop at text) ≡ before_later (escape_of (drop (at + 1) text)) =
-        rw (drop_more text at 0 place.0, unescaped-cons (get_or text at 0) (drop (at + 1) text), passes-at is_backslash text at found) refl
-        in
+    rw (drop_more text at 0 place.0, unescaped-cons (get_or text at 0) (drop (at + 1) text), passes-at is_backslash text at found) refl
+    in
     rw place.1 at (unescaped-front text) ∙ ap (λ o. option_map (λ later. take at text ++ later) o) begins
 
 pub unescaped-bad : (text : List ℕ) (at : ℕ) → position is_backslash text ≡ Some at
@@ -134,7 +134,7 @@ pub unescaped-more : (before text : List ℕ) (at meant : ℕ) (left : List ℕ)
     (unescaped left) ≡ option_map (λ later. before ++ later) (unescaped text)
 unescaped-more before text at meant left found e =
     rw (unescaped-at text at found, e, before_twice before (take at text) (option_map (λ later. meant ∷ later) (unescaped left)))
-        (sym (before_twice (before ++ take at text) (meant ∷ []) (unescaped left)))
+    (sym (before_twice (before ++ take at text) (meant ∷ []) (unescaped left)))
 
 -- nothing more is escaped
 pub unescaped-end : (before text : List ℕ) → position is_backslash text ≡ None → option_map (λ later. before ++ later)
@@ -142,8 +142,12 @@ pub unescaped-end : (before text : List ℕ) → position is_backslash text ≡ 
 unescaped-end before text none =
     let past = position-none is_backslash text none in
     let all : unescaped text ≡ Some text =
-        rw (take_all (position_or_len is_backslash text) text past, drop_all (position_or_len is_backslash text) text past, unescaped-nil,
-        append-nil) at (unescaped-front text) in
+    rw (
+      take_all (position_or_len is_backslash text) text past,
+      drop_all (position_or_len is_backslash text) text past,
+      unescaped-nil,
+      append-nil,
+    ) at (unescaped-front text) in
     rw all refl
 
 -- a byte that isn't printed as an escape is printed as it is
@@ -202,8 +206,12 @@ escaped_bytes-run bytes at found =
 pub escaped_bytes-plain : (bytes : List ℕ) → position is_escaped bytes ≡ None → escaped_bytes bytes ≡ bytes
 escaped_bytes-plain bytes none =
     let past = position-none is_escaped bytes none in
-    rw (take_all (position_or_len is_escaped bytes) bytes past, drop_all (position_or_len is_escaped bytes) bytes past, escaped_bytes-nil,
-        append-nil) at (escaped_bytes-front bytes)
+    rw (
+      take_all (position_or_len is_escaped bytes) bytes past,
+      drop_all (position_or_len is_escaped bytes) bytes past,
+      escaped_bytes-nil,
+      append-nil,
+    ) at (escaped_bytes-front bytes)
 
 -- what `{:02x}` writes of a byte
 pub hex_text-is : (byte : ℕ) → byte < 256 → hex_text byte ≡ codes "\\x" ++ padded_integral (format_spec 32 0 4 2 (2 ^ 64 - 1)) false

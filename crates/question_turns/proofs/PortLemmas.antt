@@ -45,7 +45,7 @@ pair_with path makefile = record { makefile = makefile; flavors = path.flavors }
 -- the reply to what is asked, after an evaluation of the makefile that is there
 pub answered : (world : World) (question : PortQuestion) (makefile : List ℕ) → place world (path_asked question).directory ≡ Some makefile
     → ◌≡◌ {A = Answer} (reply_alone (reply_after question makefile (means world makefile (path_asked question).flavors)))
-        (answer_to world (OfPort question))
+    (answer_to world (OfPort question))
 answered world (Variable asked) makefile placed = sym (ap (λ p. reply_alone (variable_at world asked.name asked.path.flavors p)) placed)
 answered world (Record path) makefile placed = sym (ap (λ p. reply_alone (port_at world path p)) placed)
 
@@ -53,11 +53,11 @@ answered world (Record path) makefile placed = sym (ap (λ p. reply_alone (port_
 pub spends : (world : World) (question : PortQuestion) (makefile : List ℕ) (spent : Spent)
     → place world (path_asked question).directory ≡ Some makefile
     → SpendsOnOne (cost_after question makefile (means world makefile (path_asked question).flavors))
-        (cost_of (means world makefile (path_asked question).flavors)) 1 spent
+    (cost_of (means world makefile (path_asked question).flavors)) 1 spent
     → SpendsFor world (OfPort question) spent
 spends world question makefile spent placed is =
     subst (λ p. SpendsOnOne (unwrap_or (option_map (cost_by world question) p) 0)
-        (evaluation_cost world (option_map (pair_with (path_asked question)) p))
+    (evaluation_cost world (option_map (pair_with (path_asked question)) p))
     (evaluations_of (option_map (pair_with (path_asked question)) p)) spent) (sym placed) is
 
 with_more : (most units cost more : ℕ) → units ≤ most → units ≤ cost → units ≤ min (cost + more) most
@@ -123,14 +123,14 @@ module _ (world : World) (question : PortQuestion) (before : Spent) (ask : PortA
   pub in-time-on : EvaluatesInTime world (pair_of world (path_asked question)) TURN_UNITS before (spent_in came)
   in-time-on =
       subst (λ (pair : Option Pair). EvaluatesInTime world pair TURN_UNITS before (spent_in came))
-          (sym (pair-there world (path_asked question) ask.makefile is.placed))
+      (sym (pair-there world (path_asked question) ask.makefile is.placed))
       (in-time-looked world before (spent_in ask.came) (spent_in came) TURN_UNITS given looked.units up.checks given_is asks.unchecked
-          (Some (pair_with (path_asked question) ask.makefile)) (asks.in_time port_key is.came))
+      (Some (pair_with (path_asked question) ask.makefile)) (asks.in_time port_key is.came))
 
   pub few-on : IsShort TURN_UNITS before (spent_in came)
   few-on =
       short-looked world before (spent_in ask.came) (spent_in came) TURN_UNITS given looked.units up.checks given_is asks.unchecked
-          (Some (pair_with (path_asked question) ask.makefile))
+      (Some (pair_with (path_asked question) ask.makefile))
       (few-come (files_in world) port_key came (asks.comes port_key is.came)).0 looked.checks (asks.in_time port_key is.came)
 
 -- an evaluation that isn't at its end, or waits for the next turn
@@ -180,7 +180,7 @@ module _ (world : World) (question : PortQuestion) (makefile : List ℕ) (asked 
     made-spends law =
         spends world question makefile (spent_less_saved asked cost) placed
         (subst (λ n. SpendsOnOne n (cost_of (means world makefile (path_asked question).flavors)) 1 (spent_less_saved asked cost)) cost_all
-            (law (files_in world) _ asked cost is))
+        (law (files_in world) _ asked cost is))
 
     pub made-up : (before : Spent) → asked.units ≤ 2 ^ 64 - 1 → IsUpFrom before (spent_in (Done asked))
         → IsUpFrom before (spent_less_saved asked cost)
@@ -207,9 +207,9 @@ module _ (world : World) (question : PortQuestion) (makefile : List ℕ) (asked 
         → RepliesInTime world question before (spent_less_saved asked cost)
     made-in-time before less =
         inr (made_low cost (cost_of asked.evaluation.value.outcome) (port_cost_at world question)
-            (evaluation_cost world (pair_of world (path_asked question))) before
+        (evaluation_cost world (pair_of world (path_asked question))) before
         (cost_all ∙ sym (port_cost world question makefile placed)) (ap cost_of outcome_is
-            ∙ ap (evaluation_cost world) (sym (pair-there world (path_asked question) makefile placed))) less)
+        ∙ ap (evaluation_cost world) (sym (pair-there world (path_asked question) makefile placed))) less)
 
     less_cost : (evaluation units : ℕ) → cost - (evaluation - units) ≤ cost
     less_cost evaluation units = omega arith
@@ -218,4 +218,4 @@ module _ (world : World) (question : PortQuestion) (makefile : List ℕ) (asked 
     made-within =
         stays world question makefile (spent_less_saved asked cost) placed
         (subst (λ n. (spent_less_saved asked cost).units ≤ n) cost_all (less_cost (cost_of asked.evaluation.value.outcome) asked.units))
-            is.few
+        is.few

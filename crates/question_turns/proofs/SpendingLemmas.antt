@@ -48,7 +48,7 @@ module _ (weight : List ℕ → ℕ) where
   inserted_by : (k x : List ℕ) (texts : List (List ℕ)) (o : Ordering)
       → sum_by weight (insert_key by_bytes texts k) ≤ weight k + sum_by weight texts
       → sum_by weight (match_ordering o (k ∷ x ∷ texts) (x ∷ texts) (x ∷ insert_key by_bytes texts k)) ≤ weight k +
-          sum_by weight (x ∷ texts)
+      sum_by weight (x ∷ texts)
   inserted_by k x texts Less rest = omega (arith, sum_by-cons weight k (x ∷ texts))
   inserted_by k x texts Equal rest = omega arith
   inserted_by k x texts Greater rest = omega (arith, sum_by-cons weight x (insert_key by_bytes texts k), sum_by-cons weight x texts, rest)
@@ -157,7 +157,7 @@ pub renews : RefreshingPays → (world : World) (old new : RefreshView) (before 
     → IsSpentOnIndex world new (spent_together before spent)
 renews law world old new before spent renewed is =
     renews_by law world old new before spent (spent_together before spent) renewed is (sum_few (2 ^ 64 - 1) before.units spent.units)
-        (sum_few (2 ^ 64 - 1) before.checks spent.checks)
+    (sum_few (2 ^ 64 - 1) before.checks spent.checks)
 
 -- a row is renewed on which nothing was spent
 pub renews_freely : RefreshingPays → (world : World) (old new : RefreshView) (before spent : Spent) → spent ≡ no_spending
@@ -178,11 +178,11 @@ ends law world old new before ended is =
     let so_far : IsSpentOnIndex world (refresh_at new.rows no_spending) before = record {
       units = subst (λ paths. before.units + cost_over world paths ≤ cost_over world (needed_paths world) + 0) (sym none)
           (nothing_left before.units (cost_left world old.rows) (cost_over world (needed_paths world)) old.begun.units is.units
-              (ap (λ (s : Spent). s.units) ended.nothing_begun));
+          (ap (λ (s : Spent). s.units) ended.nothing_begun));
       checks = subst (λ paths. before.checks + MOST_CHECKS * evaluations_over world paths ≤ MOST_CHECKS * evaluations_over world
           (needed_paths world) + 0) (sym none)
           (nothing_left before.checks (MOST_CHECKS * evaluations_left world old.rows)
-              (MOST_CHECKS * evaluations_over world (needed_paths world)) old.begun.checks is.checks
+          (MOST_CHECKS * evaluations_over world (needed_paths world)) old.begun.checks is.checks
           (ap (λ (s : Spent). s.checks) ended.nothing_begun));
       begun = within_nothing world (refresh_at new.rows no_spending) refl;
     } in
@@ -201,7 +201,7 @@ index_stays law world refresh spent is = (
   at_most_all spent.units (cost_left world refresh.rows) (cost_over world (needed_paths world)) refresh.begun.units is.units is.begun.units,
   few_for_pairs spent.checks (evaluations_over world (needed_paths world)) (length (pairs_at world (needed_paths world)))
       (at_most_all spent.checks (MOST_CHECKS * evaluations_left world refresh.rows)
-          (MOST_CHECKS * evaluations_over world (needed_paths world)) refresh.begun.checks is.checks is.begun.checks)
+      (MOST_CHECKS * evaluations_over world (needed_paths world)) refresh.begun.checks is.checks is.begun.checks)
       (law world (needed_paths world)),
 )
 
@@ -266,7 +266,7 @@ pub pays-on : (world : World) (old middle new : RefreshView) (spent : Spent) →
     → PaysAll world old new spent
 pays-on world old middle new spent so_far more =
     paid_more (units_left world old) (units_left world middle) (units_left world new) spent.units (units_saved old.begun.checks)
-        (units_saved middle.begun.checks) (units_saved spent.checks) so_far more
+    (units_saved middle.begun.checks) (units_saved spent.checks) so_far more
 
 paid_freely : (left middle after spent begun now last checks : ℕ) → left + now ≤ middle + begun → middle ≤ (after + spent) + (now + checks)
     → spent ≡ 0 → checks ≡ 0 → last ≡ 0 → left + last ≤ after + begun
@@ -279,7 +279,7 @@ pub paid-on : (world : World) (old middle new : RefreshView) (spent : Spent) →
     → PaidSoFar world old new
 paid-on world old middle new spent so_far more none nothing =
     paid_freely (units_left world old) (units_left world middle) (units_left world new) spent.units (units_saved old.begun.checks)
-        (units_saved middle.begun.checks) (units_saved new.begun.checks)
+    (units_saved middle.begun.checks) (units_saved new.begun.checks)
     (units_saved spent.checks) so_far more (ap (λ (s : Spent). s.units) none) (ap (λ (s : Spent). units_saved s.checks) none)
     (ap (λ (s : Spent). units_saved s.checks) nothing)
 

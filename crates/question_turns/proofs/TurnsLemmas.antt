@@ -58,7 +58,7 @@ pub fewer-after : (world : World) (question : Question) (before after : Spent) �
     → turns_after world question (total_of after) < turns_after world question (total_of before)
 fewer-after world question before after more within =
     open_less (length (rests_for world question)) (cost_for world question) (total_of before) (total_of after) more
-        (omega (arith, within.units, within.checks))
+    (omega (arith, within.units, within.checks))
 
 -- a turn that has no units left
 pub all-acted : (before after : Spent) (left : ℕ) → IsUpFrom before after
@@ -81,7 +81,7 @@ pub some-left : (world : World) (question : PortQuestion) (makefile : List ℕ) 
     → 0 < turns_after world (OfPort question) spent
 some-left world question makefile spent placed =
     subst (λ p. 0 < open_turns (length (option_to_list (option_map (pair_with (path_asked question)) p)))
-        (unwrap_or (option_map (cost_by world question) p) 0) spent) (sym placed)
+    (unwrap_or (option_map (cost_by world question) p) 0) spent) (sym placed)
     (one_left (cost_by world question makefile) spent)
 
 -- ---- a turn of an evaluation, after a look in the same turn
@@ -140,9 +140,9 @@ pub renews-few : RefreshingPays → (world : World) (old new : RefreshView) (spe
 renews-few law world old new spent renewed =
     let pays = law.renews world old new spent renewed in
     subst (λ (begun : Spent). open_turns (evaluations_left world new.rows) (cost_left world new.rows) (total_of begun) ≤ turns_of_refresh
-        world old) (sym renewed.1)
+    world old) (sym renewed.1)
     (renewed_few (evaluations_left world old.rows) (evaluations_left world new.rows) (cost_left world old.rows) (cost_left world new.rows)
-        old.begun.units old.begun.checks spent.units spent.checks pays.0 pays.1)
+    old.begun.units old.begun.checks spent.units spent.checks pays.0 pays.1)
 
 some_in_all : (begun_units begun_checks units checks : ℕ) → 1 ≤ units + checks → 1 ≤ (begun_units + units) + (begun_checks + checks)
 some_in_all begun_units begun_checks units checks some = omega (arith, some)
@@ -155,9 +155,9 @@ renews-less law world old new spent renewed some =
     let pays = law.renews world old new spent renewed in
     let fewer = law.evaluated world old new spent renewed (some_in_all old.begun.units old.begun.checks spent.units spent.checks some) in
     subst (λ (begun : Spent). open_turns (evaluations_left world new.rows) (cost_left world new.rows) (total_of begun) < turns_of_refresh
-        world old) (sym renewed.1)
+    world old) (sym renewed.1)
     (renewed_less (evaluations_left world old.rows) (evaluations_left world new.rows) (cost_left world old.rows) (cost_left world new.rows)
-        old.begun.units old.begun.checks spent.units spent.checks
+    old.begun.units old.begun.checks spent.units spent.checks
     pays.0 pays.1 fewer)
 
 begun_more : (old_units old_checks units checks new_units new_checks : ℕ) → new_units ≡ old_units + units → new_checks ≡ old_checks + checks
@@ -174,12 +174,12 @@ pub goes-less : (world : World) (old new : RefreshView) (spent : Spent) → Cont
 goes-less world old new spent goes =
     let rows : old.rows ≡ new.rows = λ i path. sym (goes.rows path) i in
     subst (λ (rows : ShownRows). turns_of_refresh world new < open_turns (evaluations_left world rows) (cost_left world rows)
-        (total_of old.begun)) (sym rows)
+    (total_of old.begun)) (sym rows)
     (open_less (evaluations_left world new.rows) (cost_left world new.rows) (total_of old.begun) (total_of new.begun)
     (begun_more old.begun.units old.begun.checks spent.units spent.checks new.begun.units new.begun.checks
-        (ap (λ (s : Spent). s.units) goes.begun) (ap (λ (s : Spent). s.checks) goes.begun) goes.enough)
+    (ap (λ (s : Spent). s.units) goes.begun) (ap (λ (s : Spent). s.checks) goes.begun) goes.enough)
     (within_both new.begun.units new.begun.checks (cost_left world new.rows) (evaluations_left world new.rows)
-        goes.within.units goes.within.checks))
+    goes.within.units goes.within.checks))
 
 open_most : (count all cost whole pairs : ℕ) → count ≤ all → cost ≤ whole → all ≡ pairs → open_turns count cost 0 ≤ open_turns pairs whole 0
 open_most count all cost whole pairs few less same = omega (arith, few, less, same)
@@ -189,9 +189,9 @@ pub begins-few : MakefilesAreEvaluated → (world : World) (refresh : RefreshVie
     → turns_of_refresh world refresh ≤ turns_after world (OfIndex question) 0
 begins-few law world refresh question nothing =
     subst (λ (begun : Spent). open_turns (evaluations_left world refresh.rows) (cost_left world refresh.rows) (total_of begun) ≤ turns_after
-        world (OfIndex question) 0) (sym nothing)
+    world (OfIndex question) 0) (sym nothing)
     (open_most (evaluations_left world refresh.rows) (evaluations_over world (needed_paths world)) (cost_left world refresh.rows)
-        (cost_over world (needed_paths world)) _
+    (cost_over world (needed_paths world)) _
     (left_takes_no_more world refresh.rows) (left_costs_no_more world refresh.rows) (law world (needed_paths world)))
 
 -- so much more is spent in a turn

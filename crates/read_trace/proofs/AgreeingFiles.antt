@@ -34,7 +34,7 @@ Agrees-agreement files (question ∷ questions) agrees = by (has_reply files que
   where
     by : (same : Bool) → has_reply files question ≡ same → ((agreement files questions).0 ≡ true → Agrees files questions)
         → (if same then one_more_checked (agreement files questions) else (false, 1)).0 ≡ true → IsReply files question.0 question.1
-            × Agrees files questions
+        × Agrees files questions
     by true same rest agrees = (reply_is files question same, rest agrees)
     by false same rest agrees = absurd (false≢true agrees)
 
@@ -85,5 +85,5 @@ pub agreement-Agrees : (files : FileMap) (questions : List Question) → Agrees 
 agreement-Agrees files [] agrees = refl
 agreement-Agrees files (question ∷ questions) agrees =
     ap (λ (same : Bool). (if same then one_more_checked (agreement files questions) else (false, 1)).0)
-        (has_reply-answered files question.0 question.1 agrees.0)
+    (has_reply-answered files question.0 question.1 agrees.0)
     ∙ agreement-Agrees files questions agrees.1

@@ -179,7 +179,7 @@ module _ {E : Type 0} (layout : Layout E) where
               ap₂ (λ x o. cond (has_key layout key x) (Some x) o) (same r (inl refl)) (go rows (λ s h. same s (inr h)))
               ∙ ap (λ k. cond (bytes_eq key k) (Some (f e)) rest) (keeps e)
               ∙ elim (has_key layout key e) as (λ b. cond b (Some (f e)) rest ≡ option_map f
-                  (cond b (Some e) (entries_of_rows layout rows key)))
+              (cond b (Some e) (entries_of_rows layout rows key)))
               [ true ↦ refl | false ↦ refl ]
 
     -- ---- a row is added whose key no other has
@@ -328,7 +328,7 @@ module _ {E : Type 0} {layout : Layout E} {schema : Schema} {at : ℕ} {table : 
     module _ (tests more : List Term) (q : E → Bool) (f : E → E) (tested : Tests layout params tests q)
         (keeps : (e : E) → layout.key (f e) ≡ layout.key e)
         (cells : (id : ℤ) (e : E) → cast_row table (drop 1 (seen (col 1 0 ∷ more) params (entry_row layout id e))) ≡
-            entry_row layout id (f e))
+        entry_row layout id (f e))
         (back : (id : ℤ) (r : Row) → layout.entry (entry_row layout id (f (layout.entry r))) ≡ f (layout.entry r))
         (text : Says schema sql (Update at (those_of table tests (col 1 0 ∷ more)))) where
       abbrev put : Row → Row

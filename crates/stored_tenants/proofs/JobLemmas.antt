@@ -48,4 +48,4 @@ pub no_jobs : (tenants : List Tenant) (tenant : Tenant) → HaveNoJob tenants �
 no_jobs [] tenant none no_job = ap (λ (job : Option TenantJob). job ∷ []) no_job
 no_jobs (first ∷ tenants) tenant none no_job =
     ap₂ (λ (job : Option TenantJob) (jobs : List (Option TenantJob)). job ∷ jobs) (head_same none)
-        (no_jobs tenants tenant (tail_same none) no_job)
+    (no_jobs tenants tenant (tail_same none) no_job)

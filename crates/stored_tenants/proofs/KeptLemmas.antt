@@ -56,7 +56,7 @@ set_right tenants t tenant within others right u other there = elim (cases_Bool 
   | inl is ↦
       let same : u ≡ t = grind (arith, nat_tests) in
       let this : tenant ≡ other = some_same (sym (get-set_same tenants t tenant within)
-          ∙ ap (slice_get (slice_set tenants t tenant)) (sym same) ∙ there) in
+      ∙ ap (slice_get (slice_set tenants t tenant)) (sym same) ∙ there) in
       subst IsRightTenant this right
   | inr not ↦
       let apart : u ≢ t = λ e. absurd grind (arith, nat_tests) in
@@ -80,7 +80,7 @@ added_right (first ∷ tenants) tenant kept right (suc u) other there = added_ri
 -- over the same world, a keeper that shows the same, with as much begun, keeps the tenant right
 pub limited
     : (tenant : Tenant) (world : World) (keeper : Keeper (List Entry)) → world ≡ world_of tenant
-        → ShowsSame (keeper_rows stored_by tenant.keeper) (keeper_rows stored_by keeper)
+    → ShowsSame (keeper_rows stored_by tenant.keeper) (keeper_rows stored_by keeper)
     → begun_in keeper.progress ≡ begun_in tenant.keeper.progress
     → (IsKept stored_by (world_of tenant) tenant.keeper → IsKept stored_by (world_of tenant) keeper)
     → IsRightTenant tenant → IsRightTenant (record tenant { store = world; keeper = keeper })

@@ -20,7 +20,7 @@ use Rattle.stored_tenants.proofs.KeptLemmas.{get-set_other, get-set_same, some_s
 fresh-same : (world : World) (old new : ShownRows) → ShowsSame old new → StayFresh world old new
 fresh-same world old new same path needed is =
     ap (λ (row : Option ShownRow). is_some (if has_makefile world path then option_and_then fresh_outcome row else Some Absent)) (same path)
-        ∙ is
+    ∙ is
 
 -- rows that were shown the same first
 pub fresh-after : (world : World) (old middle new : ShownRows) → ShowsSame old middle → StayFresh world middle new → StayFresh world old new
@@ -35,18 +35,18 @@ rows_stay tenants u before after was becomes =
 -- one tenant changes, and its rows are shown the same
 pub rows_kept
     : (tenants : List Tenant) (t : ℕ) (any tenant : Tenant) → t < length tenants
-        → ShowsSame (keeper_rows stored_by (get_or tenants t any).keeper) (keeper_rows stored_by tenant.keeper)
+    → ShowsSame (keeper_rows stored_by (get_or tenants t any).keeper) (keeper_rows stored_by tenant.keeper)
     → KeepRows tenants (slice_set tenants t tenant)
 rows_kept tenants t any tenant within same u before after was becomes = elim (cases_Bool (u == t)) [
   | inl is ↦
       let here : u ≡ t = grind (arith, nat_tests) in
       let old : get_or tenants t any ≡ before = some_same (sym (slice_get-get_or tenants t any within)
-          ∙ ap (slice_get tenants) (sym here) ∙ was) in
+      ∙ ap (slice_get tenants) (sym here) ∙ was) in
       let new : tenant ≡ after = some_same (sym (get-set_same tenants t tenant within) ∙ ap (slice_get (slice_set tenants t tenant))
-          (sym here) ∙ becomes) in
+      (sym here) ∙ becomes) in
       subst (λ (one : Tenant). ShowsSame (keeper_rows stored_by one.keeper) (keeper_rows stored_by after.keeper)) old
       (subst (λ (one : Tenant). ShowsSame (keeper_rows stored_by (get_or tenants t any).keeper) (keeper_rows stored_by one.keeper)) new
-          same)
+      same)
   | inr not ↦
       let apart : u ≢ t = λ e. absurd grind (arith, nat_tests) in
       rows_stay tenants u before after was (sym (get-set_other tenants t u tenant apart) ∙ becomes)

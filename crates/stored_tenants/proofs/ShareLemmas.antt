@@ -36,4 +36,4 @@ unused-new config cache fit is =
     let sizes = both _ _ fits in
     ap sharing_in is
     ∙ ap₂ (λ parses evals. let shared : Sharing = unused (record { parses = parses; evals = evals }) in shared)
-        (at_least_one config.parses sizes.0) (at_least_one config.evals sizes.1)
+    (at_least_one config.parses sizes.0) (at_least_one config.evals sizes.1)

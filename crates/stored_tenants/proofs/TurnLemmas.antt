@@ -56,6 +56,6 @@ pub begun-works : (world new : World) (refresh : RefreshView) (asked question : 
     → WorksFor world new question close no_job after worked
 begun-works world new refresh asked question under_way job close after worked is begins same works =
     subst (λ (q : Question). WorksFor world new q close no_job after worked)
-        (new-question world refresh asked under_way job is begins ∙ same)
+    (new-question world refresh asked under_way job is begins ∙ same)
     (subst (λ (had : Job). WorksFor world new (question_in job.under_way) close had after worked)
-        (new-had world refresh asked under_way job is begins) works)
+    (new-had world refresh asked under_way job is begins) works)

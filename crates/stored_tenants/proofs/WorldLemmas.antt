@@ -142,12 +142,12 @@ module _ (old new : List Tenant) (t : ℕ) (within : t < length old) (count : le
   charges : (request : RequestMessage) (reply : ReplyMessage) (before spent : Spent)
       → ((world : World) (request : PlainRequest) → ((plain world request).0.status == 503) ≡ false)
       → plain_answer (world_at t old) request ≡ (reply, world_at t new) → SpendsOnRequest (world_at t old) request
-          (spent_together before spent) → Charges (world_at t old) request reply before spent
+      (spent_together before spent) → Charges (world_at t old) request reply before spent
   charges request reply before spent never is spends =
       let fine : is_failure reply.status ≡ false = ap (λ (end : Served). is_failure end.0.status) (sym is)
-          ∙ never (world_at t old) (plain_request_of request) in
+      ∙ never (world_at t old) (plain_request_of request) in
       subst (λ failed. MatchBool failed (spent ≡ no_spending) (SpendsOnRequest (world_at t old) request (spent_together before spent)))
-          (sym fine) spends
+      (sym fine) spends
 
   -- what was spent with an answer is what is told
   pub work_charges : (request : RequestMessage) (reply : Option Answer) (job : Option TenantJob) (spent : Spent)

@@ -36,7 +36,7 @@ module _ (name : List ℕ) (rows given : List Row)
         let same = (bytes_eq-Decides name r.1.name).0 r.3 in
         let here : r.1.content ≡ bytes = ap bytes_in (ap (λ y. column y 0) (sym r.4) ∙ is) in
         sym (get-map_of name (map file_of rows) ∙ ap (λ k. content (entries_of_rows file_layout rows k)) same
-            ∙ ap content r.2 ∙ ap Some here);
+        ∙ ap content r.2 ∙ ap Some here);
   }
     where
       go : given ≡ [] → (o : Option File) → entries_of_rows file_layout rows name ≡ o → content o ≡ None

@@ -118,7 +118,7 @@ module _ (old new : State) (kept : IsStoreAtRest old) (path : List ℕ) (profile
       ap (λ (l : List Row). settings_of (get_or (map f l) 0 [])) one.rows_are
       ∙ ap (λ (p : Profile). record { path = trees_of path; profile = p }) back in
       holds new (record { files = map file_of (old.now.trees 0); settings = set }) (files_in (world_in_state old), set)
-          (h.settles kept.settled)
+      (h.settles kept.settled)
       (record {
         schema = h.schema_is;
         files = subst (AreFilled file_layout) (sym files) kept.formed.files;

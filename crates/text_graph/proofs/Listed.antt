@@ -24,7 +24,7 @@ reached_next : (arrows : List ArrowValue) (texts : List (List ℕ)) (text : List
     → IsFrom texts arrows text
 reached_next arrows texts text later =
     let begun = from_map (λ (arrow : ArrowValue). arrow.to) (filter (λ (arrow : ArrowValue). is_among arrow.from texts) arrows)
-        later.start later.is_start in
+    later.start later.is_start in
     let stands = from_filter (λ (arrow : ArrowValue). is_among arrow.from texts) arrows begun.element begun.stands in
     record {
       start = begun.element.from;
@@ -54,7 +54,7 @@ in_within zero arrows texts (a ∷ way) from to fits all stands lead = absurd (o
 in_within (suc count) arrows texts (a ∷ way) from to fits all stands lead =
     let begins = among_from a.from texts (subst (Contains texts) (sym lead.0) stands) in
     let next = in_map (λ (arrow : ArrowValue). arrow.to) _ a (in_filter (λ (arrow : ArrowValue). is_among arrow.from texts) arrows a
-        (first_of (Contains arrows) a way all) begins) in
+    (first_of (Contains arrows) a way all) begins) in
     Contains-append_right texts (within count arrows (next_to arrows texts)) to
     (in_within count arrows (next_to arrows texts) way a.to to (omega (arith, fits)) (behind_first (Contains arrows) a way all) next lead.1)
 
@@ -63,7 +63,7 @@ all_within : (arrows : List ArrowValue) (texts : List (List ℕ)) (text : List �
     → Contains (within (length arrows) arrows texts) text
 all_within arrows texts text reached =
     let way = short (length reached.way.way) arrows reached.way.way reached.start text (le_refl _)
-        reached.way.are_arrows reached.way.lead in
+    reached.way.are_arrows reached.way.lead in
     in_within (length arrows) arrows texts way.way reached.start text way.fits way.are_arrows reached.is_start way.lead
 
 -- the same texts in order are one list
@@ -100,9 +100,9 @@ only_list : (P : List ℕ → Type 0) (texts others : List (List ℕ)) → Lists
 only_list P texts others lists also =
     same_in_order texts others lists.in_order also.in_order (λ q.
     among_by_order q texts
-        ∙ among_others texts others
-        (λ text. ((λ stands. (also.just text).1 ((lists.just text).0 stands)), (λ stands. (lists.just text).1 ((also.just text).0 stands))))
-        q
+    ∙ among_others texts others
+    (λ text. ((λ stands. (also.just text).1 ((lists.just text).0 stands)), (λ stands. (lists.just text).1 ((also.just text).0 stands))))
+    q
     ∙ sym (among_by_order q others))
 
 -- the texts that are reached
@@ -117,8 +117,11 @@ listed_reached first arrows =
     lists_in_order (IsReached first arrows) (within (length arrows) arrows (map (λ (arrow : ArrowValue). arrow.to) first)) (λ text. (
       (λ stands. from_first first arrows text (from_within (length arrows) arrows _ text stands)),
       (λ reached. all_within arrows _ text
-          (record { start = reached.start.to; is_start = in_map (λ (arrow : ArrowValue). arrow.to) first reached.start reached.is_first;
-          way = reached.further })),
+          (record {
+            start = reached.start.to;
+            is_start = in_map (λ (arrow : ArrowValue). arrow.to) first reached.start reached.is_first;
+            way = reached.further;
+          })),
     ))
 
 pub told_reached : (first arrows : List ArrowValue) (texts : List (List ℕ)) → ListsJust (IsReached first arrows) texts
@@ -153,10 +156,10 @@ listed_reaching arrows goal =
           }),
       (λ reaches.
           let found = all_within arrows (reaches.start.to ∷ []) goal
-              (record { start = reaches.start.to; is_start = here reaches.start.to []; way = reaches.further }) in
+          (record { start = reaches.start.to; is_start = here reaches.start.to []; way = reaches.further }) in
           let kept = in_filter (leads_to arrows goal) arrows reaches.start reaches.is_arrow (among_from goal _ found) in
           subst (Contains (map (λ (arrow : ArrowValue). arrow.from) (filter (leads_to arrows goal) arrows))) reaches.begins
-              (in_map (λ (arrow : ArrowValue). arrow.from) _ reaches.start kept)),
+          (in_map (λ (arrow : ArrowValue). arrow.from) _ reaches.start kept)),
     ))
 
 pub told_reaching : (arrows : List ArrowValue) (goal : List ℕ) (texts : List (List ℕ)) → ListsJust (Reaches arrows goal) texts

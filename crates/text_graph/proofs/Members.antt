@@ -30,7 +30,7 @@ pub in_map : {X Y : Type 0} (f : X → Y) (xs : List X) (x : X) → Contains xs 
 in_map f [] x stands = nothing_in x stands
 in_map f (y ∷ ys) x stands =
     by_place y ys x stands (λ is. subst (λ z. Contains (f y ∷ map f ys) (f z)) is (here (f y) (map f ys)))
-        (λ c. there (f y) (map f ys) (f x) (in_map f ys x c))
+    (λ c. there (f y) (map f ys) (f x) (in_map f ys x c))
 
 -- an element of a mapped list is that of an element
 pub record Origin {X Y : Type 0} (f : X → Y) (xs : List X) (y : Y) : Type 0 where
@@ -43,15 +43,19 @@ from_map f [] y stands = nothing_in y stands
 from_map f (x ∷ xs) y stands =
     by_place (f x) (map f xs) y stands
     (λ is. record { element = x; stands = here x xs; gives = is })
-    (λ c. let more = from_map f xs y c in record { element = more.element; stands = there x xs more.element
-        more.stands; gives = more.gives })
+    (λ c. let more = from_map f xs y c in record {
+      element = more.element;
+      stands = there x xs more.element
+          more.stands;
+      gives = more.gives;
+    })
 
 pub in_filter : {X : Type 0} (p : X → Bool) (xs : List X) (x : X) → Contains xs x → p x ≡ true → Contains (filter p xs) x
 in_filter p [] x stands passes = nothing_in x stands
 in_filter p (y ∷ ys) x stands passes = elim (cases_Bool (p y)) [
   | inl passed ↦ subst (λ zs. Contains zs x) (sym (ap (λ b. cond b (y ∷ filter p ys) (filter p ys)) passed))
       (by_place y ys x stands (λ is. subst (λ z. Contains (y ∷ filter p ys) z) is (here y (filter p ys)))
-          (λ c. there y (filter p ys) x (in_filter p ys x c passes)))
+      (λ c. there y (filter p ys) x (in_filter p ys x c passes)))
   | inr other ↦ subst (λ zs. Contains zs x) (sym (ap (λ b. cond b (y ∷ filter p ys) (filter p ys)) other))
       (by_place y ys x stands (λ is. absurd (false≢true (sym other ∙ ap p is ∙ passes))) (λ c. in_filter p ys x c passes))
 ]

@@ -42,7 +42,7 @@ pub finds-begins : (starts : List (List ℕ)) (arrows : List ArrowValue) (met : 
     → Finds starts arrows met (numbers_added [] first) 0
 finds-begins starts arrows met first are =
     finds_these starts arrows met (numbers_added [] first) (all_added [] starts) 0 (all-added met first starts [] [] are refl)
-        (search-begins starts arrows)
+    (search-begins starts arrows)
 
 module _ (starts : List (List ℕ)) (arrows : List ArrowValue) (met : List (List ℕ)) (numbers : List ℕ) (place : ℕ)
     (so_far : Finds starts arrows met numbers place) where
@@ -67,7 +67,7 @@ module _ (starts : List (List ℕ)) (arrows : List ArrowValue) (met : List (List
       → All (λ number. number < length met) (next_numbers numbered (get_or numbers place 0))
   next_inside numbered are inside =
       numbers-inside met (next_numbers numbered (get_or numbers place 0)) (next_texts arrows (text_at met (get_or numbers place 0)))
-          (nexts numbered are inside)
+      (nexts numbered are inside)
 
   -- one more number was gone on from
   pub finds-goes_on : (numbered : List NumberedArrow) → AreArrows met numbered arrows → place < length numbers
@@ -77,10 +77,10 @@ module _ (starts : List (List ℕ)) (arrows : List ArrowValue) (met : List (List
       let number = get_or numbers place 0 in
       let text = text_at met number in
       finds_these starts arrows met (numbers_added numbers (next_numbers numbered number))
-          (all_added texts (next_texts arrows text)) (place + 1)
+      (all_added texts (next_texts arrows text)) (place + 1)
       (all-added met (next_numbers numbered number) (next_texts arrows text) numbers texts (nexts numbered are inside) so_far.named)
       (search-goes_on starts arrows texts place text so_far.searched (omega (arith, inside, length-map numbers (text_at met)))
-          (sym (get_or-map (text_at met) numbers place 0 text inside)))
+      (sym (get_or-map (text_at met) numbers place 0 text inside)))
 
   pub finds-bound : length numbers ≤ length starts + length arrows
   finds-bound = let bound = search-bound starts arrows (map (text_at met) numbers) place so_far.searched

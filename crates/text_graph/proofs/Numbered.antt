@@ -95,7 +95,7 @@ numbers-stay old new keeps (number ∷ numbers) [] are = not_both (Some number) 
 numbers-stay old new keeps (number ∷ numbers) (text ∷ texts) are =
     let first = keeps text number (sym (same_first (Some number) (place_of old text) (map Some numbers) (map (place_of old) texts) are)) in
     let others = numbers-stay old new keeps numbers texts (same_others (Some number) (place_of old text) (map Some numbers)
-        (map (place_of old) texts) are) in
+    (map (place_of old) texts) are) in
     λ i. sym first i ∷ others i
 
 -- the texts that have these numbers
@@ -106,9 +106,9 @@ texts-named met [] (text ∷ texts) are = not_both (place_of met text) (map (pla
 texts-named met (number ∷ numbers) [] are = not_both (Some number) (map Some numbers) (sym are)
 texts-named met (number ∷ numbers) (text ∷ texts) are =
     let first = stands met text number
-        (sym (same_first (Some number) (place_of met text) (map Some numbers) (map (place_of met) texts) are)) in
+    (sym (same_first (Some number) (place_of met text) (map Some numbers) (map (place_of met) texts) are)) in
     let others = texts-named met numbers texts (same_others (Some number) (place_of met text) (map Some numbers)
-        (map (place_of met) texts) are) in
+    (map (place_of met) texts) are) in
     λ i. first.is i ∷ others i
 
 pub numbers-inside : (met : List (List ℕ)) (numbers : List ℕ) (texts : List (List ℕ)) → AreNumbers met numbers texts
@@ -117,7 +117,7 @@ numbers-inside met [] texts are = All-nil (λ number. number < length met)
 numbers-inside met (number ∷ numbers) [] are = not_both (Some number) (map Some numbers) (sym are)
 numbers-inside met (number ∷ numbers) (text ∷ texts) are =
     let first = stands met text number
-        (sym (same_first (Some number) (place_of met text) (map Some numbers) (map (place_of met) texts) are)) in
+    (sym (same_first (Some number) (place_of met text) (map Some numbers) (map (place_of met) texts) are)) in
     All-cons (λ number. number < length met) number numbers first.inside
     (numbers-inside met numbers texts (same_others (Some number) (place_of met text) (map Some numbers) (map (place_of met) texts) are))
 
@@ -136,7 +136,7 @@ same-by met text other number place true true is too b c = refl
 same-by met text other number place false false is too b c = refl
 same-by met text other number place true false is too b c =
     let same : text ≡ other = sym (stands met text number is).is ∙ ap (text_at met) (eqb-true number place b)
-        ∙ (stands met other place too).is in
+    ∙ (stands met other place too).is in
     sym (sym c ∙ ap (bytes_eq text) (sym same) ∙ equal_itself text)
 same-by met text other number place false true is too b c =
     let same : number ≡ place = same_Some number place (sym is ∙ ap (place_of met) (equal_texts text other c) ∙ too) in
@@ -156,9 +156,9 @@ among-numbers met text number is [] (other ∷ texts) are = not_both (place_of m
 among-numbers met text number is (place ∷ numbers) [] are = not_both (Some place) (map Some numbers) (sym are)
 among-numbers met text number is (place ∷ numbers) (other ∷ texts) are =
     let first = same-numbers met text other number place is
-        (sym (same_first (Some place) (place_of met other) (map Some numbers) (map (place_of met) texts) are)) in
+    (sym (same_first (Some place) (place_of met other) (map Some numbers) (map (place_of met) texts) are)) in
     let others = among-numbers met text number is numbers texts (same_others (Some place) (place_of met other) (map Some numbers)
-        (map (place_of met) texts) are) in
+    (map (place_of met) texts) are) in
     λ i. first i || others i
 
 added_by : (met : List (List ℕ)) (text : List ℕ) (number : ℕ) (numbers : List ℕ) (texts : List (List ℕ)) (b c : Bool) → b ≡ c
@@ -176,7 +176,7 @@ pub one-added : (met : List (List ℕ)) (text : List ℕ) (number : ℕ) (number
     → AreNumbers met (number_added numbers number) (added texts text)
 one-added met text number numbers texts is are =
     added_by met text number numbers texts (is_number_among number numbers) (is_among text texts)
-        (among-numbers met text number is numbers texts are) is are
+    (among-numbers met text number is numbers texts are) is are
 
 pub all-added : (met : List (List ℕ)) (more : List ℕ) (others : List (List ℕ)) (numbers : List ℕ) (texts : List (List ℕ))
     → AreNumbers met more others → AreNumbers met numbers texts
@@ -188,7 +188,7 @@ all-added met (number ∷ more) (other ∷ others) numbers texts too are =
     all-added met more others (number_added numbers number) (added texts other)
     (same_others (Some number) (place_of met other) (map Some more) (map (place_of met) others) too)
     (one-added met other number numbers texts
-        (sym (same_first (Some number) (place_of met other) (map Some more) (map (place_of met) others) too)) are)
+    (sym (same_first (Some number) (place_of met other) (map Some more) (map (place_of met) others) too)) are)
 
 abbrev pub begins : List NumberedArrow → List ℕ
 begins arrows = map (λ (arrow : NumberedArrow). arrow.from) arrows
@@ -222,8 +222,8 @@ next-numbers met text number is [] (arrow ∷ arrows) from to = not_both (place_
 next-numbers met text number is (first ∷ numbered) [] from to = not_both (Some first.from) (map Some (begins numbered)) (sym from)
 next-numbers met text number is (first ∷ numbered) (arrow ∷ arrows) from to =
     let begins_there = same-numbers met text arrow.from number first.from is
-        (sym (same_first (Some first.from) (place_of met arrow.from) (map Some (begins numbered))
-        (map (place_of met) (texts_from arrows)) from)) in
+    (sym (same_first (Some first.from) (place_of met arrow.from) (map Some (begins numbered))
+    (map (place_of met) (texts_from arrows)) from)) in
     kept_by met first arrow (eqb number first.from) (bytes_eq text arrow.from) begins_there
     (sym (same_first (Some first.to) (place_of met arrow.to) (map Some (ends numbered)) (map (place_of met) (texts_to arrows)) to))
     (filter (λ (arrow : NumberedArrow). eqb number arrow.from) numbered) (filter (λ (arrow : ArrowValue). bytes_eq text arrow.from) arrows)
@@ -272,7 +272,7 @@ stepped_by : (kept : List (List ℕ)) (before : List NumberedArrow) (arrow : Num
     → eqb number arrow.from ≡ b → arrow.from < length kept
     → get_or kept number [] ≡ next_numbers before number
     → get_or (set kept arrow.from (get_or kept arrow.from [] ++ arrow.to ∷ [])) number [] ≡ ends
-        (filter (λ (arrow : NumberedArrow). eqb number arrow.from) before ++ cond b (arrow ∷ []) [])
+    (filter (λ (arrow : NumberedArrow). eqb number arrow.from) before ++ cond b (arrow ∷ []) [])
 stepped_by kept before arrow number true is inside so_far =
     let same : number ≡ arrow.from = eqb-true number arrow.from is in
     ap (λ place. get_or (set kept arrow.from (get_or kept arrow.from [] ++ arrow.to ∷ [])) place []) same
@@ -282,7 +282,7 @@ stepped_by kept before arrow number true is inside so_far =
     ∙ sym (map_push (λ (arrow : NumberedArrow). arrow.to) (filter (λ (arrow : NumberedArrow). eqb number arrow.from) before) arrow)
 stepped_by kept before arrow number false is inside so_far =
     get_or-set_other kept arrow.from number (get_or kept arrow.from [] ++ arrow.to ∷ []) []
-        (λ same. false≢true (sym is ∙ eq-eqb number arrow.from same))
+    (λ same. false≢true (sym is ∙ eq-eqb number arrow.from same))
     ∙ so_far
     ∙ ap ends (sym (append-nil (filter (λ (arrow : NumberedArrow). eqb number arrow.from) before)))
 

@@ -83,7 +83,7 @@ search-goes_on starts arrows found place text so_far inside is =
     let more = next_texts arrows text in
     let here : take (place + 1) (all_added found more) ≡ take place found ++ text ∷ [] =
     same_front found more (place + 1) (omega (arith, inside)) ∙ take_more found place text inside
-        ∙ ap (λ t. take place found ++ t ∷ []) (sym is) in
+    ∙ ap (λ t. take place found ++ t ∷ []) (sym is) in
     let was_found : is_among text found ≡ true = among_from text found (place, inside, sym is) in
     record {
       apart = all_apart found more so_far.apart;
@@ -92,7 +92,7 @@ search-goes_on starts arrows found place text so_far inside is =
           list_any-append (bytes_eq other) starts (ends arrows)
           ∙ or_right (is_among other starts) (is_among other (ends arrows))
           (ap (λ t. is_among t (ends arrows)) (sym from.ends) ∙ among_from from.arrow.to (ends arrows)
-              (in_map (λ (arrow : ArrowValue). arrow.to) arrows from.arrow from.is_arrow)))
+          (in_map (λ (arrow : ArrowValue). arrow.to) arrows from.arrow from.is_arrow)))
           (so_far.within other);
       begun = λ other among. was_there other found more (so_far.begun other among);
       gone_on = λ arrow stands among.
@@ -107,8 +107,12 @@ search-goes_on starts arrows found place text so_far inside is =
           let from = next_from arrows text other next in
           let known = so_far.is_from text was_found in
           subst (IsFrom starts arrows) from.ends
-          (record { start = known.start; is_start = known.is_start; way = farther arrows known.start text from.arrow known.way
-              from.is_arrow from.begins }))
+          (record {
+            start = known.start;
+            is_start = known.is_start;
+            way = farther arrows known.start text from.arrow known.way
+                from.is_arrow from.begins;
+          }))
           (so_far.is_from other);
       passed = omega (arith, inside, no_shorter found more);
     }

@@ -73,8 +73,13 @@ from_arrow arrows a (b ∷ way) from to goes all lead =
     elim (cases_Bool (same_arrow a b)) [
       | inl is ↦
           let same : b ≡ a = sym (one_arrow a b is) in
-          record { way = way; are_arrows = subst (λ s. All (Contains arrows) (s ∷ way)) same all; lead =
-              subst (λ (s : ArrowValue). Lead way s.to to) same lead.1; fits = omega arith }
+          record {
+            way = way;
+            are_arrows = subst (λ s. All (Contains arrows) (s ∷ way)) same all;
+            lead =
+                subst (λ (s : ArrowValue). Lead way s.to to) same lead.1;
+            fits = omega arith;
+          }
       | inr other ↦
           let later = ap (λ p. p || list_any (same_arrow a) way) (sym other) ∙ goes in
           let rest = from_arrow arrows a way b.to to later (behind_first (Contains arrows) b way all) lead.1 in

@@ -45,7 +45,7 @@ module _ (slot : List ℕ → ℕ) (met : List (List ℕ)) (marks : List (Option
       → place_of met text ≡ other text
   among_others first kept differs =
       sym (so_far.knows text) ∙ ap (λ found. place_kept met text found (other text)) kept
-          ∙ ap (λ same. cond same (Some first) (other text)) differs
+      ∙ ap (λ same. cond same (Some first) (other text)) differs
 
   -- the first text of its slot
   module _ (none : first_by slot marks text ≡ None) (fits : slot text < length marks) where
@@ -78,11 +78,11 @@ module _ (slot : List ℕ → ℕ) (met : List (List ℕ)) (marks : List (Option
 
     knows_by : (q : List ℕ) (b : Bool) → eqb (slot q) (slot text) ≡ b
         → place_kept (met ++ text ∷ []) q (first_by slot (set marks (slot text) (Some (length met))) q) (other q) ≡
-            place_of (met ++ text ∷ []) q
+        place_of (met ++ text ∷ []) q
     knows_by q true same =
         let nothing = so_far.spare q (was_none q same) in
         let new : place_of met q ≡ None = sym (so_far.knows q) ∙ ap (λ first. place_kept met q first (other q))
-            (was_none q same) ∙ nothing in
+        (was_none q same) ∙ nothing in
         ap (λ first. place_kept (met ++ text ∷ []) q first (other q)) (at_same q same)
         ∙ ap (λ at. cond (bytes_eq q at) (Some (length met)) (other q)) (get_or_push met text [] (length met) refl)
         ∙ ap (λ found. cond (bytes_eq q text) (Some (length met)) found) nothing
@@ -121,7 +121,7 @@ module _ (slot : List ℕ → ℕ) (met : List (List ℕ)) (marks : List (Option
         place_of (met ++ text ∷ []) q
     knows_too q true same =
         subst (λ t. place_kept (met ++ text ∷ []) t (first_by slot marks t) (after t) ≡ place_of (met ++ text ∷ []) t)
-            (equal_texts text q same) knows_itself
+        (equal_texts text q same) knows_itself
     knows_too q false apart =
         kept_stays met text q (first_by slot marks q) (after q) (so_far.inside q)
         ∙ ap (place_kept met q (first_by slot marks q)) (updated q ∙ ap (λ b. cond b (Some (length met)) (other q)) apart)

@@ -15,8 +15,11 @@ reached_after first arrows text = (
   λ from.
       let origin = from_map (λ (arrow : ArrowValue). arrow.to) first from.start from.is_start in
       record { start = origin.element; is_first = origin.stands; further = subst (λ t. Way arrows t text) (sym origin.gives) from.way },
-  λ reached. record { start = reached.start.to; is_start = in_map (λ (arrow : ArrowValue). arrow.to) first reached.start reached.is_first;
-      way = reached.further },
+  λ reached. record {
+    start = reached.start.to;
+    is_start = in_map (λ (arrow : ArrowValue). arrow.to) first reached.start reached.is_first;
+    way = reached.further;
+  },
 )
 
 turned_stands : (arrows : List ArrowValue) (arrow : ArrowValue) → Contains arrows arrow → Contains (map turned arrows) (turned arrow)
@@ -44,13 +47,13 @@ reaching_turned arrows goal text = (
       record { start = whole.first; is_arrow = whole.is_arrow; begins = whole.begins; further = whole.further },
   λ reaches.
       let whole = ended arrows text goal
-          (record { first = reaches.start; is_arrow = reaches.is_arrow; begins = reaches.begins; further = reaches.further }) in
+      (record { first = reaches.start; is_arrow = reaches.is_arrow; begins = reaches.begins; further = reaches.further }) in
       let back = turned whole.last in
       record {
         start = whole.last.from;
         is_start = in_map (λ (arrow : ArrowValue). arrow.to) _ back
             (in_filter (λ (arrow : ArrowValue). bytes_eq goal arrow.from) (map turned arrows) back
-                (turned_stands arrows whole.last whole.is_arrow)
+            (turned_stands arrows whole.last whole.is_arrow)
             (ap (bytes_eq goal) whole.ends ∙ equal_itself goal));
         way = turned_back arrows (map turned arrows) (turned_stands arrows) text whole.last.from whole.before;
       },

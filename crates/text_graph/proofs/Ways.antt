@@ -37,7 +37,7 @@ at_end arrows [] from arrow all stands lead = subst (λ text. Way arrows text ar
 at_end arrows (step ∷ way) from arrow all stands lead =
     subst (λ text. Way arrows text arrow.to) lead.0
     (in_front arrows step arrow.to (first_of (Contains arrows) step way all)
-        (at_end arrows way step.to arrow (behind_first (Contains arrows) step way all) stands lead.1))
+    (at_end arrows way step.to arrow (behind_first (Contains arrows) step way all) stands lead.1))
 
 pub farther : (arrows : List ArrowValue) (from to : List ℕ) (arrow : ArrowValue) → Way arrows from to → Contains arrows arrow
     → arrow.from ≡ to → Way arrows from arrow.to
@@ -78,8 +78,13 @@ begun_over : (arrows : List ArrowValue) (last : ArrowValue) → Contains arrows 
     → All (Contains arrows) way → Lead way from last.from
     → Begun arrows from last.to
 unfolding Lead
-begun_over arrows last stands [] from all lead = record { first = last; is_arrow = stands; begins = sym lead; further =
-    stay arrows last.to last.to refl }
+begun_over arrows last stands [] from all lead = record {
+  first = last;
+  is_arrow = stands;
+  begins = sym lead;
+  further =
+      stay arrows last.to last.to refl;
+}
 begun_over arrows last stands (step ∷ way) from all lead = record {
   first = step;
   is_arrow = first_of (Contains arrows) step way all;
@@ -96,11 +101,16 @@ ended_over : (arrows : List ArrowValue) (way : List ArrowValue) (first : ArrowVa
     → All (Contains arrows) way → Lead way first.to to
     → Ended arrows first.from to
 unfolding Lead
-ended_over arrows [] first to stands all lead = record { last = first; is_arrow = stands; ends = lead; before =
-    stay arrows first.from first.from refl }
+ended_over arrows [] first to stands all lead = record {
+  last = first;
+  is_arrow = stands;
+  ends = lead;
+  before =
+      stay arrows first.from first.from refl;
+}
 ended_over arrows (step ∷ way) first to stands all lead =
     let further = ended_over arrows way step to (first_of (Contains arrows) step way all)
-        (behind_first (Contains arrows) step way all) lead.1 in
+    (behind_first (Contains arrows) step way all) lead.1 in
     record {
       last = further.last;
       is_arrow = further.is_arrow;

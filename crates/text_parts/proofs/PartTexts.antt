@@ -16,7 +16,7 @@ onto_parts mark may_occur x [] a b = and_from (list_all (is_between mark may_occ
 onto_parts mark may_occur x (part ∷ parts) a b =
     let e = and_parts (list_all (is_between mark may_occur) part) (are_between mark may_occur parts) b in
     and_from (list_all (is_between mark may_occur) (x ∷ part)) (are_between mark may_occur parts)
-        (and_from (is_between mark may_occur x) (list_all (is_between mark may_occur) part) a e.0) e.1
+    (and_from (is_between mark may_occur x) (list_all (is_between mark may_occur) part) a e.0) e.1
 
 pub parts_are_between : PartsAreBetween
 parts_are_between mark may_occur [] a = refl
@@ -36,17 +36,17 @@ no_mark mark may_occur [] a = All-nil _
 no_mark mark may_occur (x ∷ part) a =
     let e = and_parts (is_between mark may_occur x) (list_all (is_between mark may_occur) part) a in
     All-cons (λ byte. (byte == mark) ≡ false) x part (not-true (x == mark) ((and_parts (may_occur x) (not (x == mark)) e.0).1))
-        (no_mark mark may_occur part e.1)
+    (no_mark mark may_occur part e.1)
 
 pub written_is_cut_again : WrittenIsCutAgain
 written_is_cut_again mark may_occur first [] a =
     let e = and_parts (list_all (is_between mark may_occur) first) true a in
     ap (slice_split (λ byte. byte == mark)) (append-nil first) ∙ slice_split_none (λ byte. byte == mark) first
-        (no_mark mark may_occur first e.0)
+    (no_mark mark may_occur first e.0)
 written_is_cut_again mark may_occur first (part ∷ parts) a =
     let e = and_parts (list_all (is_between mark may_occur) first) (are_between mark may_occur (part ∷ parts)) a in
     slice_split_at (λ byte. byte == mark) first mark (part ++ after_marks mark parts)
-        (no_mark mark may_occur first e.0) (eq-eqb mark mark refl)
+    (no_mark mark may_occur first e.0) (eq-eqb mark mark refl)
     ∙ ap (λ rest. first ∷ rest) (written_is_cut_again mark may_occur part parts e.1)
 
 stands : (mark : ℕ) (may_occur : ℕ → Bool) (part : List ℕ) → list_all (is_between mark may_occur) part ≡ true
@@ -64,6 +64,6 @@ written_parts_may_occur mark may_occur first (part ∷ parts) may a =
     let e = and_parts (list_all (is_between mark may_occur) first) (are_between mark may_occur (part ∷ parts)) a in
     list_all-append may_occur first (after_marks mark (part ∷ parts))
     ∙ and_from (list_all may_occur first) (may_occur mark && list_all may_occur (part ++ after_marks mark parts))
-        (stands mark may_occur first e.0)
+    (stands mark may_occur first e.0)
     (and_from (may_occur mark) (list_all may_occur (part ++ after_marks mark parts)) may
-        (written_parts_may_occur mark may_occur part parts may e.1))
+    (written_parts_may_occur mark may_occur part parts may e.1))

@@ -18,16 +18,16 @@ loop-path-preserved-in-Continue-branch-2 g c =
     let leaves = c.in_ok-is_there.ensures.leaves in
     let passes = ap (is_there_at world known) (sym c.as_str.ensures.value)
     ∙ sym (subst (λ (files : FileMap). let w : World = (files, settings) in c.in_ok-is_there.field-0 ≡ is_there_at w known
-        c.as_str.result.now) before.leaves.files c.in_ok-is_there.ensures.there)
+    c.as_str.result.now) before.leaves.files c.in_ok-is_there.ensures.there)
     ∙ c.if-branch.true in
     record {
       leaves = record { files = leaves.files ∙ before.leaves.files; failures = leaves.failures ∙ before.leaves.failures };
       adds = λ path. ap (λ items. is_one_of path (map string_bytes items)) c.in_ok-push.ensures.items
           ∙ ap (is_one_of path) (map-append string_bytes c.loop-path.beside.items (c.in-Some.path ∷ []))
           ∙ added-more start (map string_bytes c.loop-path.beside.items) (map string_bytes c.loop-path.yielded) (is_there_at world known)
-              (string_bytes c.in-Some.path) _ passes before.adds path
+          (string_bytes c.in-Some.path) _ passes before.adds path
           ∙ ap (λ passed. is_one_of path start || (is_one_of path passed && is_there_at world known path))
-              (sym (map-append string_bytes c.loop-path.yielded (c.in-Some.path ∷ [])));
+          (sym (map-append string_bytes c.loop-path.yielded (c.in-Some.path ∷ [])));
     }
 
 pub loop-path-preserved : goal.loop-path-preserved
@@ -40,12 +40,12 @@ loop-path-preserved g c =
     let leaves = c.in_ok-is_there.ensures.leaves in
     let passes = ap (is_there_at world known) (sym c.as_str.ensures.value)
     ∙ sym (subst (λ (files : FileMap). let w : World = (files, settings) in c.in_ok-is_there.field-0 ≡ is_there_at w known
-        c.as_str.result.now) before.leaves.files c.in_ok-is_there.ensures.there)
+    c.as_str.result.now) before.leaves.files c.in_ok-is_there.ensures.there)
     ∙ c.if-branch.false in
     record {
       leaves = record { files = leaves.files ∙ before.leaves.files; failures = leaves.failures ∙ before.leaves.failures };
       adds = λ path. added-more start (map string_bytes c.loop-path.beside.items) (map string_bytes c.loop-path.yielded)
           (is_there_at world known) (string_bytes c.in-Some.path) _ passes before.adds path
           ∙ ap (λ passed. is_one_of path start || (is_one_of path passed && is_there_at world known path))
-              (sym (map-append string_bytes c.loop-path.yielded (c.in-Some.path ∷ [])));
+          (sym (map-append string_bytes c.loop-path.yielded (c.in-Some.path ∷ [])));
     }

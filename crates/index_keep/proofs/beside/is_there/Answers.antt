@@ -14,4 +14,4 @@ returns-clause-there g c =
     let path = c.args.path.now in
     c.is_some-2.ensures ∙ found-some world path c.in_ok-find.field-0 c.in_ok-find.ensures.found
     ∙ ap (λ b. b || has_makefile world path)
-        (sym (ap is_some (sym c.get.ensures) ∙ some-map _ c.get.result ∙ sym c.is_some.ensures ∙ c.if-is_some.false))
+    (sym (ap is_some (sym c.get.ensures) ∙ some-map _ c.get.result ∙ sym c.is_some.ensures ∙ c.if-is_some.false))

@@ -32,10 +32,10 @@ loop-path-preserved g c =
     let targets = is_target_among known (map string_bytes (take place c.args.listed.now)) in
     let row = ap known_row (c.get.ensures.row memory before.finder ∙ ap (entries_in memory) c.deref.ensures) in
     let is : named ≡ filter has_comma (targets_in (known (string_bytes text))) = c.in_ok-named.ensures
-        ∙ ap (λ outcome. filter has_comma (targets_in outcome)) row in
+    ∙ ap (λ outcome. filter has_comma (targets_in outcome)) row in
     let one = λ (path : List ℕ). ap (is_one_of path) is ∙ one-filter has_comma path (targets_in (known (string_bytes text))) in
     let adds = λ (path : List ℕ). subst (λ (files : FileMap). let w : World = (files, settings) in is_one_of path after ≡
-        (is_one_of path beside || (is_one_of path named && is_there_at w memory path)))
+    (is_one_of path beside || (is_one_of path named && is_there_at w memory path)))
     before.leaves.files (c.in_ok-add_there.ensures.adds path) in
     record {
       finder = c.get.ensures.finder memory before.finder;
@@ -43,9 +43,9 @@ loop-path-preserved g c =
       are = λ path. adds path
           ∙ ap (λ b. b || (is_one_of path named && is_there_at world memory path)) (before.are path)
           ∙ added-there (has_comma path) (targets path) (is_there_at world memory path) (is_one_of path named)
-              (is_one_of path (targets_in (known (string_bytes text)))) (one path)
+          (is_one_of path (targets_in (known (string_bytes text)))) (one path)
           ∙ ap (λ b. has_comma path && b && is_there_at world memory path)
-              (sym (target-next known c.args.listed.now place text path c.loop-path-test.true c.path-item.is));
+          (sym (target-next known c.args.listed.now place text path c.loop-path-test.true c.path-item.is));
     }
 
 pub returns-clause-beside : goal.returns-clause-beside
@@ -59,6 +59,6 @@ returns-clause-beside g c =
           ∙ among-in_order (λ one. bytes_eq one path) beside
           ∙ c.loop-path.invariant.are path
           ∙ ap (λ texts. has_comma path && is_target_among (known_in (entries_in memory)) (map string_bytes texts) path &&
-              is_there_at world memory path)
+          is_there_at world memory path)
           (take_all c.loop-path.path-index c.args.listed.now c.loop-path-test.false);
     }

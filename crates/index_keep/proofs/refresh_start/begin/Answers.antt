@@ -16,6 +16,6 @@ returns-clause-marked g c =
     let paths = map string_bytes c.deref.result.now in
     shown-marked (contains_text c.args.changed.now) paths entries (g.R.PathRows.entries c.mark.new.self)
     (λ path. ap (λ items. is_one_of path (map string_bytes items)) c.deref.ensures.value ∙ c.in_ok-known.ensures.outdated entries
-        c.in_ok-stored.ensures.rows path)
+    c.in_ok-stored.ensures.rows path)
     (λ path. c.in_ok-mark.ensures.ok path ∙ ap (λ stored. if is_one_of path paths then option_map marked stored else stored)
-        (c.in_ok-stored.ensures.same path))
+    (c.in_ok-stored.ensures.same path))

@@ -11,4 +11,4 @@ returns-clause-known g c = λ path.
     let none = contains_text c.new-changed.result in
     c.in_ok-sort.ensures.known entries c.in_ok-stored.ensures.rows path ∙ sym (fresh-shown none entries path)
     ∙ ap (option_and_then said_if_fresh)
-        (shown-test none no_name entries (none_among c.new-changed.result c.new-changed.ensures.empty) path)
+    (shown-test none no_name entries (none_among c.new-changed.result c.new-changed.ensures.empty) path)

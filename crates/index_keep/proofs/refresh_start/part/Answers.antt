@@ -25,30 +25,30 @@ loop-path-preserved c =
     let before = λ (path : List ℕ). is_one_of path (map string_bytes (take c.loop-path.path-index c.args.paths.now)) in
     let item = string_bytes c.path-item.result in
     let more = λ (path : List ℕ). one_of-more c.args.paths.now c.loop-path.path-index c.path-item.result path
-        c.loop-path-test.true c.path-item.is in
+    c.loop-path-test.true c.path-item.is in
     let left_item : option_map known_seen c.take_out.result ≡ said_in c.loop-path.left item = c.take_out.ensures.taken
-        ∙ ap (said_in c.loop-path.left) c.as_str.ensures.value in
+    ∙ ap (said_in c.loop-path.left) c.as_str.ensures.value in
     record {
       left = λ path.
           c.take_out.ensures.others path
           ∙ ap (λ (bytes : _). if bytes_eq bytes path then None else said_in c.loop-path.left path) c.as_str.ensures.value
           ∙ either (bytes_eq item path) (before path) (said_in c.args.known path) (said_in c.loop-path.left path)
-              (c.loop-path.invariant.left path)
+          (c.loop-path.invariant.left path)
           ∙ sym (ap (λ (b : Bool). if b then None else said_in c.args.known path) (more path));
       taken = λ path. elim c.match-take_out.branch [
         | in-Some+in_ok-from_str+in_ok-put w ↦
             (λ i. said_in (w.taken-is i) path)
             ∙ w.in_ok-put.ensures.says path
             ∙ ap (λ (bytes : _). if bytes_eq bytes path then Some (known_seen w.in-Some.row) else said_in c.loop-path.taken path)
-                (w.in_ok-from_str.ensures.ok ∙ w.as_str-in-Some.ensures.value)
+            (w.in_ok-from_str.ensures.ok ∙ w.as_str-in-Some.ensures.value)
             ∙ taken-put (said_in c.args.known) (said_in c.loop-path.left) (said_in c.loop-path.taken) before c.loop-path.invariant.left
-                c.loop-path.invariant.taken item
+            c.loop-path.invariant.taken item
             (known_seen w.in-Some.row) (sym left_item ∙ ap (option_map known_seen) w.in-Some.is) path (bytes_eq item path) refl
             ∙ sym (ap (λ (b : Bool). if b then said_in c.args.known path else None) (more path))
         | in_default w ↦
             (λ i. said_in (w.taken-is i) path)
             ∙ taken-none (said_in c.args.known) (said_in c.loop-path.left) (said_in c.loop-path.taken) before c.loop-path.invariant.left
-                c.loop-path.invariant.taken item
+            c.loop-path.invariant.taken item
             (sym left_item ∙ none_of known_seen c.take_out.result w.in_default.not-Some) path (bytes_eq item path) refl
             ∙ sym (ap (λ (b : Bool). if b then said_in c.args.known path else None) (more path))
       ];

@@ -20,5 +20,5 @@ loop-row-preserved c =
           (c.loop-row.invariant.known entries are);
       outdated = λ entries are. ListsOutdated-next test entries passed row (row-stored entries c.args.stored.items passed rest row left are)
           (map string_bytes c.loop-row.sorted.outdated.items) (map string_bytes c.add.new.sorted.outdated.items)
-              c.in_ok-add.ensures.outdated (c.loop-row.invariant.outdated entries are);
+          c.in_ok-add.ensures.outdated (c.loop-row.invariant.outdated entries are);
     }

@@ -19,6 +19,6 @@ loop-path-preserved c = λ path.
     c.take_out-taken.ensures.others path
     ∙ ap (λ (bytes : _). if bytes_eq bytes path then None else said_in c.loop-path.known path) c.as_str.ensures.value
     ∙ either (bytes_eq (string_bytes c.path-item.result) path) before (said_in c.args.known path) (said_in c.loop-path.known path)
-        (c.loop-path.invariant path)
+    (c.loop-path.invariant path)
     ∙ sym (ap (λ (b : Bool). if b then None else said_in c.args.known path)
-        (one_of-more c.args.paths.now c.loop-path.path-index c.path-item.result path c.loop-path-test.true c.path-item.is))
+    (one_of-more c.args.paths.now c.loop-path.path-index c.path-item.result path c.loop-path-test.true c.path-item.is))

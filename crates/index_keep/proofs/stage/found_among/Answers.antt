@@ -13,7 +13,7 @@ loop-path-preserved c = λ order path.
     let before = map string_bytes c.loop-path.found.items in
     let passes = c.is_found_in.ensures.all order ∙ ap (λ p. is_one_of p others) c.deref.ensures in
     let next = λ (added : Bool) (is : c.is_found_in.result ≡ added). chosen-next (λ at. is_one_of at others) c.args.paths.now
-        c.loop-path.path-index text before added
+    c.loop-path.path-index text before added
     c.loop-path-test.true c.path-item.is (sym passes ∙ is) (c.loop-path.invariant order) path in
     elim c.if-is_found_in.branch [
       | then-is_found_in+in_ok-from_str+in_ok-push w ↦

@@ -7,4 +7,4 @@ use Rattle.index_keep.proofs.stage.found_among.Given as goal
 abbrev pub invariant-loop-path : goal.invariant-loop-path
 invariant-loop-path l = AreInOrder (map string_bytes l.others) → (path : List ℕ)
     → is_one_of path (map string_bytes l.found.items) ≡ (is_one_of path (map string_bytes (take l.path-index l.paths)) && is_one_of path
-        (map string_bytes l.others))
+    (map string_bytes l.others))

@@ -15,9 +15,9 @@ loop-path-preserved c =
     let finder = c.loop-path.invariant.finder in
     let lacks = λ (path : List ℕ). is_none (entries_in known path) in
     let passes = none-not c.get.result c.is_none.result c.is_none.ensures ∙ sym (none-map _ c.get.result)
-        ∙ ap is_none (c.get.ensures.row known finder) ∙ ap lacks c.deref.ensures in
+    ∙ ap is_none (c.get.ensures.row known finder) ∙ ap lacks c.deref.ensures in
     let next = λ (path : List ℕ) (added : Bool) (is : c.is_none.result ≡ added). chosen-next lacks c.args.paths.now
-        c.loop-path.path-index text before added
+    c.loop-path.path-index text before added
     c.loop-path-test.true c.path-item.is (sym passes ∙ is) c.loop-path.invariant.lacking path in
     record {
       finder = c.get.ensures.finder known finder;

@@ -16,11 +16,11 @@ returns-in-Some-clause-leaves g c = λ world end.
     let order = end-order world (shown no_name old) last end beside known in
     let others = subst (λ (items : List (String Global)). HasOrder last (map string_bytes items)
     → IfOk c.take_out_others.result (λ others. (path : List ℕ) → is_one_of path (map string_bytes others.items) ≡
-        (is_some (old path) && not (row_stays last (map string_bytes items) path))))
+    (is_some (old path) && not (row_stays last (map string_bytes items) path))))
     c.deref.ensures.value c.take_out_others.ensures.others in
     let left = subst (λ (items : List (String Global)). HasOrder last (map string_bytes items)
     → OnOk c.take_out_others.result
-        ((path : List ℕ) → new path ≡ (if row_stays last (map string_bytes items) path then old path else None)))
+    ((path : List ℕ) → new path ≡ (if row_stays last (map string_bytes items) path then old path else None)))
     c.deref.ensures.value c.take_out_others.ensures.ok in
     leaves-taken world old new last end beside known c.take_out_others.result (others order) (left order)
 

@@ -13,14 +13,14 @@ loop-path-preserved-in-Continue-1 c =
       finds = c.has.ensures.finder c.args.last.now beside c.loop-path.invariant.finds;
       others = λ order path.
           let apart : not (kept p) ≡ true =
-              ap not (sym (c.has.ensures.stays c.args.last.now beside c.loop-path.invariant.finds order ∙ ap kept c.as_str.ensures.value)
-              ∙ c.if-not-has.true) in
+          ap not (sym (c.has.ensures.stays c.args.last.now beside c.loop-path.invariant.finds order ∙ ap kept c.as_str.ensures.value)
+          ∙ c.if-not-has.true) in
           ap (λ items. is_one_of path (map string_bytes items)) c.in_ok-push.ensures.items
           ∙ ap (is_one_of path) (map-append string_bytes c.loop-path.others.items (c.in-Some.path ∷ []))
           ∙ chosen-more (map string_bytes c.loop-path.others.items) (map string_bytes c.loop-path.yielded) (λ at. not (kept at)) p true
-              apart (c.loop-path.invariant.others order) path
+          apart (c.loop-path.invariant.others order) path
           ∙ sym (ap (λ passed. is_one_of path passed && not (kept path))
-              (map-append string_bytes c.loop-path.yielded (c.in-Some.path ∷ [])));
+          (map-append string_bytes c.loop-path.yielded (c.in-Some.path ∷ [])));
     }
 
 pub loop-path-preserved : goal.loop-path-preserved
@@ -31,10 +31,10 @@ loop-path-preserved c =
       finds = c.has.ensures.finder c.args.last.now beside c.loop-path.invariant.finds;
       others = λ order path.
           let there : not (kept p) ≡ false =
-              ap not (sym (c.has.ensures.stays c.args.last.now beside c.loop-path.invariant.finds order ∙ ap kept c.as_str.ensures.value)
-              ∙ c.if-not-has.false) in
+          ap not (sym (c.has.ensures.stays c.args.last.now beside c.loop-path.invariant.finds order ∙ ap kept c.as_str.ensures.value)
+          ∙ c.if-not-has.false) in
           chosen-more (map string_bytes c.loop-path.others.items) (map string_bytes c.loop-path.yielded) (λ at. not (kept at)) p false there
-              (c.loop-path.invariant.others order) path
+          (c.loop-path.invariant.others order) path
           ∙ sym (ap (λ passed. is_one_of path passed && not (kept path))
-              (map-append string_bytes c.loop-path.yielded (c.in-Some.path ∷ [])));
+          (map-append string_bytes c.loop-path.yielded (c.in-Some.path ∷ [])));
     }

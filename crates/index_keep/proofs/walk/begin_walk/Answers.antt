@@ -21,7 +21,7 @@ returns-in_ok-mark-in-Some-clause-marked g c =
     let world : World = view_world (view_of g.F.Names.view c.args.files.now) c.args.settings.now in
     let is = subst (λ (l : _). IfSome l (IsHeld test world (shown test old))) c.in-Some.is c.requires.last in
     let outdated = ap (map string_bytes) c.deref-in-Some.ensures.value ∙ c.in_ok-outdated-in-Some.ensures
-        ∙ ap (map string_bytes) c.deref.ensures.value in
+    ∙ ap (map string_bytes) c.deref.ensures.value in
     shown-asked test (map string_bytes c.deref-in-Some.result.now) old (g.R.PathRows.entries c.mark.new.self)
     (λ path one row there of. stored-asked test old c.in-Some.held.index is.last path one row there of
     ∙ sym (ap (is_one_of path) outdated ∙ c.in_ok-begun-in-Some.ensures.outdated path))

@@ -25,16 +25,16 @@ returns c = λ world rows may.
     let recalls = may.lists.last in
     let found = λ (path : List ℕ).
     c.in_ok-paths.ensures (subst AreInOrder (sym (ap (λ items. map string_bytes items) c.deref-2.ensures.value ∙ may.directories))
-        (directories-order (files_in world))) path in
+    (directories-order (files_in world))) path in
     let needs = λ (path : List ℕ) (one : is_one_of path all ≡ true).
     needed-among led (listed_in begun.lists) path (ap (is_one_of path) may.lists.listed
-        ∙ listed-from led dirs path (ap (is_one_of path) may.directories ∙ one)) in
+    ∙ listed-from led dirs path (ap (is_one_of path) may.directories ∙ one)) in
     let missing = λ (path : List ℕ) (one : is_one_of path all ≡ true). recalls.missing path (needs path one) in
     let same = λ (path : List ℕ).
     found path ∙ ap (λ items. is_one_of path (map string_bytes items) && is_one_of path (map string_bytes c.deref-2.result.now))
-        c.deref.ensures.value
+    c.deref.ensures.value
     ∙ ap (λ items. is_one_of path (paths_in last) && is_one_of path items)
-        (ap (λ items. map string_bytes items) c.deref-2.ensures.value ∙ may.directories) in
+    (ap (λ items. map string_bytes items) c.deref-2.ensures.value ∙ may.directories) in
     record {
       stage = subst (IsStage world rows all) (sym c.new.ensures) (record {
         among = outdated-among world known all paths rows (paths_in last) same missing recalls.fresh;

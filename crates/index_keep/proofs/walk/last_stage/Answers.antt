@@ -17,7 +17,7 @@ returns-in-Some-clause-last g c = λ rows has.
     let next = c.args.next in
     last-kept c.alike_rows_list_the_same.ensures c.known_rows_are_enough.ensures world rows next has c.in-Some.last
     (subst (λ (l : _). IfSome l (Recalls world rows next.stage.known (listed_of next))) c.in-Some.is has.far.last)
-        c.new.result c.new.ensures
+    c.new.result c.new.ensures
 
 pub returns-clause-last : goal.returns-clause-last
 returns-clause-last g c = λ rows has.
@@ -25,9 +25,9 @@ returns-clause-last g c = λ rows has.
     let next = c.args.next in
     let beside = c.in_ok-beside-in-None.beside in
     last-looked c.alike_rows_list_the_same.ensures c.known_rows_are_enough.ensures world rows next has c.needed_are_named.ensures
-        (c.makefiles_are_of_directories.ensures (view_of g.F.Names.view c.args.files.now).files) beside
+    (c.makefiles_are_of_directories.ensures (view_of g.F.Names.view c.args.files.now).files) beside
     (subst (λ items. AreBeside world next.stage.known (map string_bytes items) (map string_bytes beside.items)) c.deref.ensures.value
-        c.in_ok-beside-in-None.ensures.beside)
+    c.in_ok-beside-in-None.ensures.beside)
     c.in_ok-paths-in-None.paths (λ (path : List ℕ). c.in_ok-paths-in-None.ensures path
-        ∙ ap (λ items. is_one_of path (map string_bytes items) && is_none (entries_in next.stage.known path)) c.deref-in-None.ensures.value)
+    ∙ ap (λ items. is_one_of path (map string_bytes items) && is_none (entries_in next.stage.known path)) c.deref-in-None.ensures.value)
     c.new-in-None.result c.new-in-None.ensures

@@ -27,7 +27,7 @@ returns-in-Some c = λ world rows has.
     let found = λ (path : List ℕ).
     c.in_ok-paths-in-Some.ensures (subst AreInOrder (sym (ap (λ items. map string_bytes items) c.deref-in-Some.ensures.value)) order) path
     ∙ ap (λ items. is_one_of path (map string_bytes items) && is_one_of path (map string_bytes c.deref-in-Some.result.now))
-        c.deref.ensures.value
+    c.deref.ensures.value
     ∙ ap (λ items. is_one_of path (paths_in lists.last) && is_one_of path (map string_bytes items)) c.deref-in-Some.ensures.value in
     let missing = λ (path : List ℕ) (one : is_one_of path all ≡ true). recalls.missing path (needed-among led all path one) in
     let same = c.new.ensures in
@@ -42,7 +42,7 @@ returns-in-Some c = λ world rows has.
           (ap (λ (s : Stage). is_one_of path (paths_of s)) (sym same) ∙ one);
       others = λ path one apart. ap (λ (s : Stage). is_some (decided world (entries_in s.known) path)) same
           ∙ outdated-others world known all paths rows (paths_in lists.last) found missing recalls.fresh path one
-              (ap (λ (s : Stage). is_one_of path (paths_of s)) (sym same) ∙ apart);
+          (ap (λ (s : Stage). is_one_of path (paths_of s)) (sym same) ∙ apart);
       last = subst (λ (s : Stage). Recalls world rows s.known all lists.last) (sym same) recalls;
     }
 
@@ -54,7 +54,7 @@ returns c = λ world rows has.
     let all = map string_bytes listed.items in
     let paths = map string_bytes c.in_ok-paths-in-None.paths.items in
     let lacks = λ (path : List ℕ). c.in_ok-paths-in-None.ensures path
-        ∙ ap (λ items. is_one_of path (map string_bytes items) && is_none (known path)) c.deref-in-None-2.ensures.value in
+    ∙ ap (λ items. is_one_of path (map string_bytes items) && is_none (known path)) c.deref-in-None-2.ensures.value in
     let same = c.new-in-None.ensures in
     record {
       listed = c.in_ok-listed-in-None.ensures ∙ ap (λ items. listed_from (known_in known) (map string_bytes items))

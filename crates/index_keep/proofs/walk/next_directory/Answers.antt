@@ -23,7 +23,7 @@ returns-in-Some-clause-next g c = λ rows way.
     let stage = first.stage in
     let all = directories (files_in world) in
     let passes = subst (PassesStage world stage c.pass.new.self) c.in-Some.is
-        (c.in_ok-found.ensures.passes (passed-known world rows all stage way.far.stage)) in
+    (c.in_ok-found.ensures.passes (passed-known world rows all stage way.far.stage)) in
     let come : Stage = record stage { place = c.pass.new.self.place } in (
       subst (λ (s : Stage). IsDirectoryStage world rows (record first { stage = s })) (sym passes.0) (record {
         stage = stage-at world rows all stage way.far.stage c.pass.new.self.place passes.1 come refl;
@@ -41,21 +41,21 @@ returns-in_ok-listed_stage-in-None-clause-next g c = λ rows way.
     let stage = first.stage in
     let all = directories (files_in world) in
     let passes = subst (PassesStage world stage c.pass.new.self) c.in-None.is
-        (c.in_ok-found.ensures.passes (passed-known world rows all stage way.far.stage)) in
+    (c.in_ok-found.ensures.passes (passed-known world rows all stage way.far.stage)) in
     let are = all-decided world rows all stage way.far.stage passes.1 in
     let next = c.in_ok-listed_stage-in-None.field-0 in
     let same : record first { stage = c.pass.new.self } ≡ first = ap (λ (s : Stage). record first { stage = s }) passes.0 in
     let has : HasDirectories world rows first = record {
       known = subst (AreDecided world (entries_in stage.known)) (sym way.far.directories)
           (decided-same world (fresh rows) (entries_in stage.known) (λ path. sym (entries-fresh rows stage.known way.far.stage.knows path))
-              all are);
+          all are);
       lists = way.far.lists;
     } in
     let lists = subst (λ (before : DirectoryStage). ListsPaths world rows before next) same
     (c.in_ok-listed_stage-in-None.ensures world rows (subst (λ (before : DirectoryStage). HasDirectories world rows before) (sym same) has))
-        in
+    in
     let then = subst (λ (files : FileMap). let w : World = (files, c.args.settings.now) in IsOnTheWay w rows (Listed next)
-        → IfOk c.next_listed.result (IsNext w rows)) c.in_ok-found.ensures.leaves.files
+    → IfOk c.next_listed.result (IsNext w rows)) c.in_ok-found.ensures.leaves.files
     (c.next_listed.ensures.next rows) in
     then (record {
       kept = way.kept;

@@ -16,7 +16,7 @@ returns-in-Some-clause-next g c = λ rows way.
     let world : World = view_world (view_of g.F.Names.view c.args.files.now) c.args.settings.now in
     let listed = c.args.listed in
     let passes = subst (PassesStage world listed.stage c.pass.new.self) c.in-Some.is
-        (c.in_ok-found.ensures.passes (passed-known world rows (listed_paths world) listed.stage way.far.stage)) in
+    (c.in_ok-found.ensures.passes (passed-known world rows (listed_paths world) listed.stage way.far.stage)) in
     let come : Stage = record listed.stage { place = c.pass.new.self.place } in (
       subst (λ (s : Stage). IsListedStage world rows (record listed { stage = s })) (sym passes.0) (record {
         stage = stage-at world rows (listed_paths world) listed.stage way.far.stage c.pass.new.self.place passes.1 come refl;
@@ -34,16 +34,20 @@ returns-in_ok-last-in-None-clause-next g c = λ rows way.
     let world : World = view_world (view_of g.F.Names.view c.args.files.now) settings in
     let listed = c.args.listed in
     let passes = subst (PassesStage world listed.stage c.pass.new.self) c.in-None.is
-        (c.in_ok-found.ensures.passes (passed-known world rows (listed_paths world) listed.stage way.far.stage)) in
+    (c.in_ok-found.ensures.passes (passed-known world rows (listed_paths world) listed.stage way.far.stage)) in
     let last = c.in_ok-last-in-None.last in
     let same : record listed { stage = c.pass.new.self } ≡ listed = ap (λ (s : Stage). record listed { stage = s }) passes.0 in
-    let has : HasListed world rows listed = record { kept = way.kept; far = way.far; known = all-decided world rows (listed_paths world)
-        listed.stage way.far.stage passes.1 } in
+    let has : HasListed world rows listed = record {
+      kept = way.kept;
+      far = way.far;
+      known = all-decided world rows (listed_paths world)
+          listed.stage way.far.stage passes.1;
+    } in
     let far : IsLastStage world rows last =
     subst (λ (files : FileMap). let w : World = (files, settings) in HasListed w rows (record listed { stage = c.pass.new.self })
-        → IsLastStage w rows last) c.in_ok-found.ensures.leaves.files
+    → IsLastStage w rows last) c.in_ok-found.ensures.leaves.files
     (c.in_ok-last-in-None.ensures.last rows) (subst (λ (before : ListedStage). HasListed world rows before) (sym same) has) in
     let next = subst (λ (files : FileMap). let w : World = (files, settings) in IsOnTheWay w rows (Needed last)
-        → IfOk c.next_needed.result (IsNext w rows))
+    → IfOk c.next_needed.result (IsNext w rows))
     (c.in_ok-last-in-None.ensures.leaves.files ∙ c.in_ok-found.ensures.leaves.files) (c.next_needed.ensures.next rows) in
     next (record { kept = way.kept; far = far })

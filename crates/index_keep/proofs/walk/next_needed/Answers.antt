@@ -15,7 +15,7 @@ returns-in-Some-clause-next g c = λ rows way.
     let last = c.args.last in
     let paths = needed_paths world in
     let passes = subst (PassesStage world last.stage c.pass.new.self) c.in-Some.is
-        (c.in_ok-found.ensures.passes (passed-known world rows paths last.stage way.far.stage)) in (
+    (c.in_ok-found.ensures.passes (passed-known world rows paths last.stage way.far.stage)) in (
       last-at world rows last way.far c.pass.new.self.place passes.1 c.pass.new.self passes.0,
       lacking-at world rows paths last.stage way.far.stage (λ path is. is) c.in-Some.found passes.2,
       passes.2.found,
@@ -27,7 +27,7 @@ returns-in-None-clause-next g c = λ rows way.
     let last = c.args.last in
     let paths = needed_paths world in
     let passes = subst (PassesStage world last.stage c.pass.new.self) c.in-None.is
-        (c.in_ok-found.ensures.passes (passed-known world rows paths last.stage way.far.stage)) in (
+    (c.in_ok-found.ensures.passes (passed-known world rows paths last.stage way.far.stage)) in (
       subst (λ (s : Stage). IsLastStage world rows (record last { stage = s })) (sym passes.0) way.far,
       all-decided world rows paths last.stage way.far.stage passes.1,
     )

@@ -17,7 +17,7 @@ returns c = λ world rows says are.
     let all = directories (files_in world) in
     let paths = map string_bytes c.in_ok-paths.paths.items in
     let lacks = λ (path : List ℕ). c.in_ok-paths.ensures path ∙ ap (λ dirs. is_one_of path dirs && is_none (known path))
-        (ap (λ items. map string_bytes items) c.deref.ensures.value ∙ are) in
+    (ap (λ items. map string_bytes items) c.deref.ensures.value ∙ are) in
     record {
       stage = subst (IsStage world rows all) (sym c.new.ensures) (record {
         among = lacking-among world known all paths lacks;

@@ -8,7 +8,7 @@ returns-in_err-depend c =
     let p = err_from_is_err_and c.from_residual-in_err-depend.result c.from_residual-in_err-depend.ensures.1 in
     rw (p.1, p.2)
     (reads-fail depend c.in_err-depend.field-0.0 _ c.args.count c.loop.counter _ _ c.loop-test.true
-        c.in_err-depend.ensures c.loop.invariant)
+    c.in_err-depend.ensures c.loop.invariant)
 
 pub loop-preserved : goal.loop-preserved
 loop-preserved c =

@@ -6,5 +6,5 @@ pub returns : goal.returns
 returns c =
     on_ok_weaker c.write_text-2.result
     (λ last. Adds-depend _ _ _ _ _ _ _ _ c.in_ok-write_kind.ensures c.in_ok-write_text.ensures last c.kind.ensures
-        c.subpackage.ensures c.item.ensures)
+    c.subpackage.ensures c.item.ensures)
     c.write_text-2.ensures

@@ -43,9 +43,9 @@ returns-in_ok-write_byte-in-Lists c =
     on_ok_weaker c.write_texts.result
     (λ last. subst (Adds outcome _ _) (sym (ap row_seen c.in-Lists.is))
     (Adds-outcome _ _ _ 4 _ c.in_ok-write_byte-in-Lists.ensures
-        (Adds-last texts Lists _ _ _
-        (subst (λ (words : List (String Global)). Adds texts c.write_byte-in-Lists.new.out.items c.write_texts.new.out.items
-        (map string_bytes words)) c.deref.ensures.value last))))
+    (Adds-last texts Lists _ _ _
+    (subst (λ (words : List (String Global)). Adds texts c.write_byte-in-Lists.new.out.items c.write_texts.new.out.items
+    (map string_bytes words)) c.deref.ensures.value last))))
     c.write_texts.ensures
 
 pub returns-in_ok-write_byte-in-BadList : goal.returns-in_ok-write_byte-in-BadList
@@ -59,7 +59,7 @@ pub returns-in-FlavoredList : goal.returns-in-FlavoredList
 returns-in-FlavoredList c =
     on_ok_weaker c.write_byte-in-FlavoredList.result
     (λ one. subst (Adds outcome _ _) (sym (ap row_seen c.in-FlavoredList.is))
-        (Adds-outcome _ _ _ 6 FlavoredList one (Adds-give FlavoredList _ _ refl)))
+    (Adds-outcome _ _ _ 6 FlavoredList one (Adds-give FlavoredList _ _ refl)))
     c.write_byte-in-FlavoredList.ensures
 
 pub returns-in-Other : goal.returns-in-Other

@@ -6,5 +6,5 @@ pub returns : goal.returns
 returns c =
     on_ok_weaker c.write_text-2.result
     (λ last. Adds-package _ _ _ _ _ _ _ _ c.in_ok-write_text.ensures c.in_ok-write_name.ensures last c.subpackage.ensures
-        c.name.ensures c.comment.ensures)
+    c.name.ensures c.comment.ensures)
     c.write_text-2.ensures

@@ -10,5 +10,5 @@ returns c =
     on_ok_weaker c.write_texts.result
     (λ last. Adds-row _ _ _ _ _ _ _ c.in_ok-write_outcome.ensures c.in_ok-write_number.ensures
     (subst (λ (names : List (String Global)). Adds texts c.write_number.new.out.items c.write_texts.new.out.items (map string_bytes names))
-        c.deref.ensures.value last))
+    c.deref.ensures.value last))
     c.write_texts.ensures

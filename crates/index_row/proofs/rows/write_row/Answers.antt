@@ -9,4 +9,4 @@ pub returns : goal.returns
 returns c =
     row_of-written _ _
     (subst (λ (old : List ℕ). Adds row old c.write_parts.new.out.items (kept_row_seen c.args.row.now)) c.in_ok-out.ensures.items
-        c.in_ok-write_parts.ensures)
+    c.in_ok-write_parts.ensures)

@@ -14,7 +14,7 @@ use Rattle.index_store.proofs.transactions.commit.Goals as goal
 pub make-requires-clause-free : goal.make-requires-clause-free
 make-requires-clause-free c =
     subst (λ (h : Held MemStore). IsAllowedChange c.args.has_earlier c.args.change (rows_of h))
-        (sym c.transaction-tx.ensures.begun) c.requires.free
+    (sym c.transaction-tx.ensures.begun) c.requires.free
 
 pub returns-in_err-make-clause-err : goal.returns-in_err-make-clause-err
 returns-in_err-make-clause-err c =

@@ -9,8 +9,15 @@ pub slice_bounds-has_mark-end : goal.slice_bounds-has_mark-end
 slice_bounds-has_mark-end c =
     let size = ap length c.requires.same ∙ length-outside c.args.text.now in
     elim c.if-is_sign.branch [
-      | then-is_sign w ↦ omega (arith, size, c.requires.within, w.start-is, c.saturating_sub-before.ensures, length-take
-          c.if-is_sign.start c.args.plain.now)
+      | then-is_sign w ↦ omega (
+        arith,
+        size,
+        c.requires.within,
+        w.start-is,
+        c.saturating_sub-before.ensures,
+        length-take
+            c.if-is_sign.start c.args.plain.now,
+      )
       | else-is_sign w ↦ omega (arith, size, c.requires.within, w.start-is, length-take c.if-is_sign.start c.args.plain.now)
     ]
 

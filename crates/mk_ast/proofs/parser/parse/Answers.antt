@@ -15,7 +15,7 @@ returns-in-Ok c =
     let bytes = c.args.bytes.now in
     let same : with_kind (blocks_of BLOCKS (logical_lines c.in-Ok.text.now)) ≡ parsed bytes =
     ap (λ text. with_kind (blocks_of BLOCKS (logical_lines text))) c.in-Ok.ensures.cases.0
-        ∙ sym (parsed-good bytes c.in-Ok.ensures.cases.1) in
+    ∙ sym (parsed-good bytes c.in-Ok.ensures.cases.1) in
     let is = subst (λ reading. HoldsOfAnswer c.parse_text.result (λ answer. answer ≡ reading)) same c.parse_text.ensures in
     record { reads = answers-parses bytes c.parse_text.result is; function = is }
 

@@ -21,12 +21,12 @@ loop-line-preserved c = (
   tt,
   c.loop-line.invariant.2 ∙ ap (read_on BLOCKS (state_of_reader c.loop-line.reader)) c.in-Some.ensures.steps.0
       ∙ read-next BLOCKS (state_of_reader c.loop-line.reader) (state_of_reader c.in_ok-reader.reader) c.in-Some.line
-          c.next.new.self.rest.items c.in_ok-reader.ensures,
+      c.next.new.self.rest.items c.in_ok-reader.ensures,
 )
 
 pub returns : goal.returns
 returns c =
     let none = nil_from_length c.loop-line.line-iterator.rest.items (sym c.loop-line.line-iterator.rest.ok.0 ∙ c.in-None.ensures.steps.0) in
     let all = c.loop-line.invariant.2 ∙ ap (read_on BLOCKS (state_of_reader c.loop-line.reader)) none
-        ∙ read-end BLOCKS (state_of_reader c.loop-line.reader) in
+    ∙ read-end BLOCKS (state_of_reader c.loop-line.reader) in
     subst (λ reading. HoldsOfAnswer c.finish.result (λ answer. answer ≡ with_kind (whole_reading reading))) (sym all) c.finish.ensures

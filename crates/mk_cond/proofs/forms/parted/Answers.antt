@@ -7,4 +7,4 @@ use Rattle.mk_cond.proofs.forms.parted.Goals as goal
 pub cut_at-requires-clause-blank : goal.cut_at-requires-clause-blank
 cut_at-requires-clause-blank c =
     (position-Some is_blank c.args.text.now c.in-Some.at 0 (ap (position is_blank) (sym c.as_bytes.ensures.value)
-        ∙ sym c.first_blank.ensures ∙ c.in-Some.is)).1
+    ∙ sym c.first_blank.ensures ∙ c.in-Some.is)).1

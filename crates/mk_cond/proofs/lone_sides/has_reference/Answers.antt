@@ -39,7 +39,7 @@ returns-in-Ok c =
     let text = c.args.text.now in
     let found = c.in-Ok.found.items in
     c.refers.ensures ∙ ap (list_any is_reference_piece) c.as_slice.ensures.value ∙ same_pieces text found
-        ∙ whole text (map (piece_in_text text) found) c.in-Ok.ensures.whole c.in-Ok.ensures.pieces
+    ∙ whole text (map (piece_in_text text) found) c.in-Ok.ensures.whole c.in-Ok.ensures.pieces
 
 pub returns-in-Err-Unclosed : goal.returns-in-Err-Unclosed
 returns-in-Err-Unclosed c = cut_short c.args.text.now (IsFaultOf-left c.args.text.now c.in-Err-Unclosed.field-0 c.in-Err-Unclosed.field-0-0

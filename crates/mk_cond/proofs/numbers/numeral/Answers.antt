@@ -50,7 +50,7 @@ below : (radix most : ℕ) (digits : List ℕ) → 2 ≤ radix → radix ^ most 
     → digits_value radix digits < 2 ^ 63
 below radix most digits base fits p =
     let low : digits_value radix digits < radix ^ length digits = rw (digits_value_is, ← length-map digits digit_value)
-        (number_lt radix (map digit_value digits) (all_below_base_from_digits radix digits p.all)) in
+    (number_lt radix (map digit_value digits) (all_below_base_from_digits radix digits p.all)) in
     let some : 0 < radix = omega arith in
     omega (arith, low, pow-le-pow_right some p.few, fits)
 
@@ -79,7 +79,7 @@ returns-in-Ok-clause-value c =
     let p = parts radix c.args.most digits is in
     c.ok.ensures.value
     ∙ parsed radix digits c.from_str_radix.result c.requires.greatest p.some p.all
-        (below radix c.args.most digits c.requires.least c.requires.few p) (rw c.in-Ok.ensures.cases.0 at c.from_str_radix.ensures.value)
+    (below radix c.args.most digits c.requires.least c.requires.few p) (rw c.in-Ok.ensures.cases.0 at c.from_str_radix.ensures.value)
     ∙ sym (read radix c.args.most digits is)
 
 pub returns-in-Ok-clause-small : goal.returns-in-Ok-clause-small
@@ -91,7 +91,7 @@ returns-in-Ok-clause-small c =
     let low : digits_value radix digits < 2 ^ 63 = below radix c.args.most digits c.requires.least c.requires.few p in
     subst (λ o. IfSome o (λ n. n < 2 ^ 63))
     (sym (c.ok.ensures.value ∙ parsed radix digits c.from_str_radix.result c.requires.greatest p.some p.all low
-        (rw c.in-Ok.ensures.cases.0 at c.from_str_radix.ensures.value)))
+    (rw c.in-Ok.ensures.cases.0 at c.from_str_radix.ensures.value)))
     low
 
 pub returns-in-Err-clause-value : goal.returns-in-Err-clause-value
@@ -100,4 +100,4 @@ returns-in-Err-clause-value c =
     let digits = c.args.digits.now in
     let is : is_numeral radix c.args.most digits ≡ true = sym c.is_numeral.ensures ∙ c.if-not-is_numeral.false in
     absurd (c.in-Err.ensures.cases.0
-        (IsUtf8-from_ascii digits (ascii radix digits c.requires.greatest (parts radix c.args.most digits is).all)))
+    (IsUtf8-from_ascii digits (ascii radix digits c.requires.greatest (parts radix c.args.most digits is).all)))

@@ -23,7 +23,7 @@ condition_truth-conjunction_truth-requires g t c κs within =
 pub condition_truth-conjunction_truth-requires-in-loop-conjunction : goal.condition_truth-conjunction_truth-requires-in-loop-conjunction
 condition_truth-conjunction_truth-requires-in-loop-conjunction g t c κs within =
     let part = later-and c.args.condition.now c.deref-conjunction-items.result.now c.loop-conjunction.conjunction-index
-        c.conjunction-item.result c.deref-conjunction-items.ensures.value c.loop-conjunction-test.true c.conjunction-item.is in
+    c.conjunction-item.result c.deref-conjunction-items.ensures.value c.loop-conjunction-test.true c.conjunction-item.is in
     (omega (arith, part-length _ _ part), (within, part-All (IsTokenIn c.args.setting.text.now) _ _ part c.requires))
 
 pub condition_truth-returns-then-held : goal.condition_truth-returns-then-held
@@ -51,10 +51,10 @@ condition_truth-returns-in_err-held-2 g t c =
     (c.conjunction_truth-in-loop-conjunction.new.budget, view c.conjunction_truth-in-loop-conjunction.new.files)
     c.loop-conjunction.invariant.asked c.loop-conjunction.invariant.later
     (λ end stops. or-begins s c.args.condition.now items _ _ c.in_ok-held.held c.deref-conjunction-items.ensures.value
-        c.in_ok-held.ensures.gives ∙ c.loop-conjunction.invariant.goes ∙ ands-stop s items c.loop-conjunction.conjunction-index
-        c.conjunction-item.result c.loop-conjunction.held _ end c.loop-conjunction-test.true c.conjunction-item.is c.if-held.false
+    c.in_ok-held.ensures.gives ∙ c.loop-conjunction.invariant.goes ∙ ands-stop s items c.loop-conjunction.conjunction-index
+    c.conjunction-item.result c.loop-conjunction.held _ end c.loop-conjunction-test.true c.conjunction-item.is c.if-held.false
     (subst (λ files. and_truth (surroundings_of c.args.setting files) (conjunction_tree c.conjunction-item.result)
-        (account c.loop-conjunction.budget (view c.loop-conjunction.files)) ≡ Err end) same stops))
+    (account c.loop-conjunction.budget (view c.loop-conjunction.files)) ≡ Err end) same stops))
     c.in_err-held-2.ensures)
 
 pub condition_truth-loop-conjunction-preserved : goal.condition_truth-loop-conjunction-preserved
@@ -66,11 +66,13 @@ condition_truth-loop-conjunction-preserved g t c =
     record {
       goes = c.loop-conjunction.invariant.goes
           ∙ ands-next s items c.loop-conjunction.conjunction-index c.conjunction-item.result c.loop-conjunction.held c.in_ok-held-2.held _ _
-              c.loop-conjunction-test.true c.conjunction-item.is c.if-held.false
+          c.loop-conjunction-test.true c.conjunction-item.is c.if-held.false
           (subst (λ files. and_truth (surroundings_of c.args.setting files) (conjunction_tree c.conjunction-item.result)
-              (account c.loop-conjunction.budget (view c.loop-conjunction.files)) ≡ Ok
-          (c.in_ok-held-2.held, account c.conjunction_truth-in-loop-conjunction.new.budget
-              (view c.conjunction_truth-in-loop-conjunction.new.files))) same c.in_ok-held-2.ensures.gives);
+          (account c.loop-conjunction.budget (view c.loop-conjunction.files)) ≡ Ok (
+            c.in_ok-held-2.held,
+            account c.conjunction_truth-in-loop-conjunction.new.budget
+                (view c.conjunction_truth-in-loop-conjunction.new.files),
+          )) same c.in_ok-held-2.ensures.gives);
       asked = AfterQuestions-on (view c.args.files.now) (view c.loop-conjunction.files) _ c.loop-conjunction.invariant.asked
           c.in_ok-held-2.ensures.asks;
       later = IsLater-on c.loop-conjunction.invariant.later c.in_ok-held-2.ensures.later;
@@ -97,7 +99,7 @@ conjunction_truth-term_truth-requires g t c κs within =
 pub conjunction_truth-term_truth-requires-in-loop-term : goal.conjunction_truth-term_truth-requires-in-loop-term
 conjunction_truth-term_truth-requires-in-loop-term g t c κs within =
     let part = later-not c.args.conjunction.now c.deref-term-items.result.now c.loop-term.term-index c.term-item.result
-        c.deref-term-items.ensures.value c.loop-term-test.true c.term-item.is in
+    c.deref-term-items.ensures.value c.loop-term-test.true c.term-item.is in
     (omega (arith, part-length _ _ part), (within, part-All (IsTokenIn c.args.setting.text.now) _ _ part c.requires))
 
 pub conjunction_truth-returns-then-not-held : goal.conjunction_truth-returns-then-not-held
@@ -125,10 +127,10 @@ conjunction_truth-returns-in_err-held-2 g t c =
     (c.term_truth-in-loop-term.new.budget, view c.term_truth-in-loop-term.new.files)
     c.loop-term.invariant.asked c.loop-term.invariant.later
     (λ end stops. and-begins s c.args.conjunction.now items _ _ c.in_ok-held.held c.deref-term-items.ensures.value
-        c.in_ok-held.ensures.gives ∙ c.loop-term.invariant.goes ∙ nots-stop s items c.loop-term.term-index c.term-item.result
-        c.loop-term.held _ end c.loop-term-test.true c.term-item.is c.if-not-held.false
+    c.in_ok-held.ensures.gives ∙ c.loop-term.invariant.goes ∙ nots-stop s items c.loop-term.term-index c.term-item.result
+    c.loop-term.held _ end c.loop-term-test.true c.term-item.is c.if-not-held.false
     (subst (λ files. not_truth (surroundings_of c.args.setting files) (term_tree c.term-item.result)
-        (account c.loop-term.budget (view c.loop-term.files)) ≡ Err end) same stops))
+    (account c.loop-term.budget (view c.loop-term.files)) ≡ Err end) same stops))
     c.in_err-held-2.ensures)
 
 pub conjunction_truth-loop-term-preserved : goal.conjunction_truth-loop-term-preserved
@@ -140,10 +142,13 @@ conjunction_truth-loop-term-preserved g t c =
     record {
       goes = c.loop-term.invariant.goes
           ∙ nots-next s items c.loop-term.term-index c.term-item.result c.loop-term.held c.in_ok-held-2.held _ _ c.loop-term-test.true
-              c.term-item.is c.if-not-held.false
+          c.term-item.is c.if-not-held.false
           (subst (λ files. not_truth (surroundings_of c.args.setting files) (term_tree c.term-item.result)
-              (account c.loop-term.budget (view c.loop-term.files)) ≡ Ok (c.in_ok-held-2.held, account c.term_truth-in-loop-term.new.budget
-              (view c.term_truth-in-loop-term.new.files))) same c.in_ok-held-2.ensures.gives);
+          (account c.loop-term.budget (view c.loop-term.files)) ≡ Ok (
+            c.in_ok-held-2.held,
+            account c.term_truth-in-loop-term.new.budget
+                (view c.term_truth-in-loop-term.new.files),
+          )) same c.in_ok-held-2.ensures.gives);
       asked = AfterQuestions-on (view c.args.files.now) (view c.loop-term.files) _ c.loop-term.invariant.asked c.in_ok-held-2.ensures.asks;
       later = IsLater-on c.loop-term.invariant.later c.in_ok-held-2.ensures.later;
     }
@@ -165,9 +170,12 @@ term_truth-term_truth-requires g t c κs within = (
   let inner : c.deref.result.now ≡ c.in-Not.turned.value = search rules in
       let same = ap (λ x. length (not_tokens (term_tree x))) inner in
       omega (arith, same, turned-shorter c.args.term.now c.in-Not.turned c.in-Not.is),
-  (within, subst (λ x. All (IsTokenIn c.args.setting.text.now) (not_tokens (term_tree x)))
-      (let inner : c.in-Not.turned.value ≡ c.deref.result.now = search rules in inner)
-  (in_turned (IsTokenIn c.args.setting.text.now) c.args.term.now c.in-Not.turned c.in-Not.is c.requires)),
+  (
+    within,
+    subst (λ x. All (IsTokenIn c.args.setting.text.now) (not_tokens (term_tree x)))
+        (let inner : c.in-Not.turned.value ≡ c.deref.result.now = search rules in inner)
+        (in_turned (IsTokenIn c.args.setting.text.now) c.args.term.now c.in-Not.turned c.in-Not.is c.requires),
+  ),
 )
 
 pub term_truth-condition_truth-requires : goal.term_truth-condition_truth-requires
@@ -175,9 +183,12 @@ term_truth-condition_truth-requires g t c κs within = (
   let inner : c.deref-in-Group.result.now ≡ c.in-Group.condition.value = search rules in
       let same = ap (λ x. length (or_tokens (condition_tree x))) inner in
       omega (arith, same, group-shorter c.args.term.now c.in-Group.condition c.in-Group.is),
-  (within, subst (λ x. All (IsTokenIn c.args.setting.text.now) (or_tokens (condition_tree x)))
-      (let inner : c.in-Group.condition.value ≡ c.deref-in-Group.result.now = search rules in inner)
-  (in_group (IsTokenIn c.args.setting.text.now) c.args.term.now c.in-Group.condition c.in-Group.is c.requires)),
+  (
+    within,
+    subst (λ x. All (IsTokenIn c.args.setting.text.now) (or_tokens (condition_tree x)))
+        (let inner : c.in-Group.condition.value ≡ c.deref-in-Group.result.now = search rules in inner)
+        (in_group (IsTokenIn c.args.setting.text.now) c.args.term.now c.in-Group.condition c.in-Group.is c.requires),
+  ),
 )
 
 pub term_truth-of-requires : goal.term_truth-of-requires

@@ -28,7 +28,7 @@ invariant-condition_truth-loop-conjunction g l =
       goes : later_ands_truth s (later_ands (map conjunction_tree l.conjunction-items)) l.initial.held
           (account l.initial.budget (view l.initial.files))
           ≡ later_ands_truth s (later_ands (map conjunction_tree (drop l.conjunction-index l.conjunction-items))) l.held
-              (account l.budget (view l.files));
+          (account l.budget (view l.files));
       asked : AfterQuestions (view l.fn.files) (view l.files);
       later : IsLater l.fn.budget l.budget;
     }

@@ -5,9 +5,11 @@ use Rattle.mk_cond_tree.proofs.Pieces.{walk-tokens}
 use Rattle.mk_cond_tree.proofs.scanner.tokens.Goals as goal
 
 pub loop-at-preserved-then-is_blank : goal.loop-at-preserved-then-is_blank
-loop-at-preserved-then-is_blank c =
-    (ap (option_map (λ later. c.loop-at.found.items ++ later)) (walk-blank c.args.bytes.now c.loop-at.at c.loop-at-test.true
-        c.if-is_blank.ensures) ∙ c.loop-at.invariant.0, omega arith)
+loop-at-preserved-then-is_blank c = (
+  ap (option_map (λ later. c.loop-at.found.items ++ later)) (walk-blank c.args.bytes.now c.loop-at.at c.loop-at-test.true
+      c.if-is_blank.ensures) ∙ c.loop-at.invariant.0,
+  omega arith,
+)
 
 pub loop-at-preserved : goal.loop-at-preserved
 loop-at-preserved c =
@@ -17,7 +19,7 @@ loop-at-preserved c =
           ∙ token-added c.loop-at.found.items c.in-Some.token later
           ∙ ap (option_map (λ tokens. c.loop-at.found.items ++ tokens))
           (walk-token bytes c.loop-at.at c.in-Some.token c.in-Some.end c.loop-at-test.true c.if-is_blank.ensures c.in-Some.ensures.token
-              c.in-Some.ensures.within.0)
+          c.in-Some.ensures.within.0)
           ∙ c.loop-at.invariant.0,
       c.in-Some.ensures.within.1,
     )
@@ -25,7 +27,7 @@ loop-at-preserved c =
 pub returns-in_default : goal.returns-in_default
 returns-in_default c =
     sym (ap (option_map (λ later. c.loop-at.found.items ++ later)) (walk-refused c.args.bytes.now c.loop-at.at c.loop-at-test.true
-        c.if-is_blank.ensures c.in_default.ensures.token))
+    c.if-is_blank.ensures c.in_default.ensures.token))
     ∙ c.loop-at.invariant.0 ∙ walk-tokens c.args.bytes.now
 
 pub returns : goal.returns

@@ -15,8 +15,8 @@ returns-clause-gives g c =
     let name = resolved (name_under (directory_of place.makefile) (codes "../Makefile.inc")) in
     Gives-same _ _ _ _ _
     (ap (λ again. (if again then (λ b. Ok ((includes.with_makefile_kind c.args.state.now roles.Port, None), b)) else includes.open_if_there
-        place (includes.first_port c.args.state.now) name) a) c.if-state.false
+    place (includes.first_port c.args.state.now) name) a) c.if-state.false
     ∙ ap (λ state. includes.open_if_there place state name a) (sym c.say_first_port.ensures)
     ∙ ap (λ directory. includes.open_if_there place c.say_first_port.new.state (resolved (name_under directory (codes "../Makefile.inc")))
-        a) (sym c.directory-directory.ensures))
+    a) (sym c.directory-directory.ensures))
     (c.open_if_there.ensures.gives c.say_first_port.new.state)

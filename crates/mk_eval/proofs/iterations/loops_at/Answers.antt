@@ -14,10 +14,13 @@ made : {R E : Type 0} (items : R → List Iteration) (iterations : Iterations) (
     → slice_get (iterations_in iterations) index ≡ Some (iteration_words iteration)
     → IfOk result (λ inner. map iteration_words (items inner) ≡ map iteration_words loops ++ iteration_words iteration ∷ [])
     → IfOk result (λ inner. (words : LoopWords) × (slice_get (iterations_in iterations) index ≡ Some words)
-        × (loops_of (items inner) ≡ inside_iteration (loops_of loops) words))
-made items iterations index loops iteration (Ok inner) at same =
-    (iteration_words iteration, at, loops_of-alike (items inner) (loops ++ iteration ∷ [])
-        (same ∙ sym (map-append iteration_words loops (iteration ∷ []))) ∙ loops_of-inside loops iteration)
+    × (loops_of (items inner) ≡ inside_iteration (loops_of loops) words))
+made items iterations index loops iteration (Ok inner) at same = (
+  iteration_words iteration,
+  at,
+  loops_of-alike (items inner) (loops ++ iteration ∷ [])
+      (same ∙ sym (map-append iteration_words loops (iteration ∷ []))) ∙ loops_of-inside loops iteration,
+)
 made items iterations index loops iteration (Err stop) at same = tt
 
 pub returns : goal.returns

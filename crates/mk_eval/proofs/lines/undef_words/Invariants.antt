@@ -7,4 +7,4 @@ use Rattle.mk_eval.proofs.lines.undef_words.Given as goal
 abbrev pub invariant-loop-span : goal.invariant-loop-span
 invariant-loop-span l =
     without_variables l.initial.env (map (span_text l.text) l.span-items) ≡ without_variables l.env
-        (map (span_text l.text) (drop l.span-index l.span-items))
+    (map (span_text l.text) (drop l.span-index l.span-items))

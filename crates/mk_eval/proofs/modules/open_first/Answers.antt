@@ -11,13 +11,13 @@ returns-in_err-opened-clause-asks g c =
     let p = err_from_is_err_and c.from_residual.result c.from_residual.ensures.1 in
     rw (p.1, p.2)
     (LeavesAtStop-on g.F.Names.fails_with (view c.args.files.now) (view c.loop-tree.files) (view c.open_if_there.new.files)
-        c.in_err-opened.field-0.0 c.loop-tree.invariant.asked c.in_err-opened.ensures.asks)
+    c.in_err-opened.field-0.0 c.loop-tree.invariant.asked c.in_err-opened.ensures.asks)
 
 pub returns-then-is_some-clause-asks : goal.returns-then-is_some-clause-asks
 returns-then-is_some-clause-asks g c =
     let view = g.F.Names.view in
     AfterQuestions-on (view c.args.files.now) (view c.loop-tree.files) (view c.open_if_there.new.files) c.loop-tree.invariant.asked
-        c.in_ok-opened.ensures.asks
+    c.in_ok-opened.ensures.asks
 
 pub loop-tree-preserved : goal.loop-tree-preserved
 loop-tree-preserved g c =
@@ -27,7 +27,7 @@ loop-tree-preserved g c =
       first = first-on c.args.here c.args.trees.now c.args.file.now c.args.budget.now (view c.args.files.now) (view c.loop-tree.files)
           (view c.open_if_there.new.files) c.loop-tree.tree-index c.loop-tree.budget c.open_if_there.new.budget
           c.loop-tree.invariant.first c.loop-tree.invariant.asked c.tree-item.result within c.tree-item.is c.as_str.result.now
-              c.as_str.ensures.value c.in_ok-opened.opened
+          c.as_str.ensures.value c.in_ok-opened.opened
           (sym c.is_some.ensures ∙ c.if-is_some.false) c.in_ok-opened.ensures.gives;
       asked = AfterQuestions-on (view c.args.files.now) (view c.loop-tree.files) (view c.open_if_there.new.files)
           c.loop-tree.invariant.asked c.in_ok-opened.ensures.asks;

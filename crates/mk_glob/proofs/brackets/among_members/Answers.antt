@@ -10,7 +10,7 @@ use Rattle.mk_glob.proofs.brackets.among_members.Goals as goal
 pub returns-in_err-low : goal.returns-in_err-low
 returns-in_err-low c =
     subst (TestsMembers c.args.body.now c.args.c) (sym c.from_residual.ensures)
-        (ap bracketed (signs_of-empty c.args.body.now c.in_err-low.ensures))
+    (ap bracketed (signs_of-empty c.args.body.now c.in_err-low.ensures))
 
 pub loop-sign-init : goal.loop-sign-init
 loop-sign-init c = (

@@ -7,5 +7,9 @@ returns-in_default c = inl (MakesNoRange-empty c.args.rest.now c.in_default.ensu
 
 pub returns-in_default-first_sign : goal.returns-in_default-first_sign
 returns-in_default-first_sign c =
-    inl (MakesNoRange-last c.args.rest.now c.in-Some.dash c.in-Some.behind.now c.in-Some.ensures
-        c.in_default-first_sign.ensures, refl, refl)
+    inl (
+      MakesNoRange-last c.args.rest.now c.in-Some.dash c.in-Some.behind.now c.in-Some.ensures
+          c.in_default-first_sign.ensures,
+      refl,
+      refl,
+    )

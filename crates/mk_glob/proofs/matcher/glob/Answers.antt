@@ -25,7 +25,7 @@ returns-in-Over-clause-cut c =
 pub loop-behind-preserved-in-Run : goal.loop-behind-preserved-in-Run
 loop-behind-preserved-in-Run c =
     Goes-run c.args.pattern.now c.args.word.now c.loop-behind.rest c.loop-behind.back c.loop-behind.unclosed
-        c.step.new.unclosed c.in-Run.behind
+    c.step.new.unclosed c.in-Run.behind
     c.loop-behind.invariant c.in-Run.ensures.learns c.in-Run.ensures.step
 
 pub loop-behind-smaller-in-Run : goal.loop-behind-smaller-in-Run
@@ -36,7 +36,7 @@ loop-behind-smaller-in-Run c =
 pub loop-behind-preserved-in-One : goal.loop-behind-preserved-in-One
 loop-behind-preserved-in-One c =
     Goes-one c.args.pattern.now c.args.word.now c.loop-behind.rest c.loop-behind.back c.loop-behind.unclosed
-        c.step.new.unclosed c.in-One.behind
+    c.step.new.unclosed c.in-One.behind
     c.loop-behind.invariant c.in-One.ensures.learns c.in-One.ensures.step
 
 pub loop-behind-smaller-in-One : goal.loop-behind-smaller-in-One
@@ -49,13 +49,13 @@ returns-in_default-clause-cut c =
     cut_where_fits c.args.pattern.now c.args.word.now false
     (sym (fits-stuck c.args.pattern.now c.args.word.now c.loop-behind.rest c.loop-behind.back c.loop-behind.unclosed c.loop-behind.invariant
     c.in-Refused.ensures.step
-        (by_back-over c.loop-behind.back (subst (TakesMore c.loop-behind.back) c.in_default.is c.and_then-back.ensures))))
+    (by_back-over c.loop-behind.back (subst (TakesMore c.loop-behind.back) c.in_default.is c.and_then-back.ensures))))
 
 pub loop-behind-preserved : goal.loop-behind-preserved
 loop-behind-preserved c =
     subst (λ b. Goes c.args.pattern.now c.args.word.now c.in-Some.further b c.step.new.unclosed) (sym c.in-Some.is)
     (Goes-more c.args.pattern.now c.args.word.now c.loop-behind.rest c.loop-behind.back c.loop-behind.unclosed
-        c.step.new.unclosed c.in-Some.further
+    c.step.new.unclosed c.in-Some.further
     c.loop-behind.invariant c.in-Refused.ensures.learns c.in-Refused.ensures.step
     (subst (TakesMore c.loop-behind.back) c.in-Some.is c.and_then-back.ensures))
 

@@ -19,7 +19,7 @@ returns-clause-tells c =
       ]
     ] in
     TellsOne-exactly c.args.sign (signs_of c.args.behind.now) c.args.c c.character.result c.requires.item (sym c.if-is_bare.ensures)
-        opens c.character.ensures
+    opens c.character.ensures
 
 pub returns-clause-learns : goal.returns-clause-learns
 returns-clause-learns c = elim c.if-is_bare-2.branch [

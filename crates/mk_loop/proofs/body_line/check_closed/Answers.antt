@@ -3,5 +3,8 @@ use Rattle.mk_ref.specs.AtomFacts.{IsFaultOf-left}
 use Rattle.mk_loop.proofs.body_line.check_closed.Goals as goal
 
 pub returns-in-Err-Unclosed-clause-err : goal.returns-in-Err-Unclosed-clause-err
-returns-in-Err-Unclosed-clause-err c = (refl, IsFaultOf-left c.args.line.now c.in-Err-Unclosed.field-0 c.in-Err-Unclosed.field-0-0
-    c.in-Err-Unclosed.ensures.fault c.in-Err-Unclosed.field-0-is)
+returns-in-Err-Unclosed-clause-err c = (
+  refl,
+  IsFaultOf-left c.args.line.now c.in-Err-Unclosed.field-0 c.in-Err-Unclosed.field-0-0
+      c.in-Err-Unclosed.ensures.fault c.in-Err-Unclosed.field-0-is,
+)

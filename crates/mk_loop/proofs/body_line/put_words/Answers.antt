@@ -54,7 +54,7 @@ returns-clause-gives c =
     let invariant = c.loop-alloc.invariant in
     subst (λ outcome. GivesPurely (made_or_line line) c.finished.result c.loop-alloc.budget outcome)
     (sym (invariant.goes ∙ goes-last (words_in c.args.loops.now) c.args.variables.now line c.loop-alloc.pass invariant.left
-        c.loop-alloc.budget (omega arith) invariant.is_left))
+    c.loop-alloc.budget (omega arith) invariant.is_left))
     (c.finished.ensures.gives c.loop-alloc.budget)
 
 pub returns-clause-none : goal.returns-clause-none

@@ -28,7 +28,7 @@ loop-at-preserved c =
     let at = c.loop-at.at in
     name-more text c.args.start c.args.closing at (at + 2) EscapedDollar c.loop-at.invariant c.loop-at-test.true c.if-bytes-at.false
     (pair-at-place text at c.in-Some-Doubled.ensures.inside (sym c.in-Some-Doubled.ensures.opening ∙ ap Some c.in-Some-Doubled.field-0-is))
-        refl refl
+    refl refl
 
 pub returns-in-Some-Letter : goal.returns-in-Some-Letter
 returns-in-Some-Letter c =

@@ -41,9 +41,9 @@ pub returns-in-Some : goal.returns-in-Some
 returns-in-Some c =
     let iteration = c.index-loops-at.result in
     among-first (iteration_words iteration) (words_in (take (c.loop-at.at - 1) c.args.loops.now)) c.args.name.now
-        c.in-Some.word.now c.in-Some.ensures
+    c.in-Some.word.now c.in-Some.ensures
     ∙ ap (λ words. word_of words c.args.name.now)
-        (sym (innermost c.args.loops.now c.loop-at.at iteration c.loop-at-test.true (omega arith) c.index-loops-at.is))
+    (sym (innermost c.args.loops.now c.loop-at.at iteration c.loop-at-test.true (omega arith) c.index-loops-at.is))
     ∙ c.loop-at.invariant
 
 pub loop-at-preserved : goal.loop-at-preserved
@@ -51,5 +51,5 @@ loop-at-preserved c =
     let iteration = c.index-loops-at.result in
     sym (among-more (iteration_words iteration) (words_in (take (c.loop-at.at - 1) c.args.loops.now)) c.args.name.now c.in_default.ensures)
     ∙ ap (λ words. word_of words c.args.name.now)
-        (sym (innermost c.args.loops.now c.loop-at.at iteration c.loop-at-test.true (omega arith) c.index-loops-at.is))
+    (sym (innermost c.args.loops.now c.loop-at.at iteration c.loop-at-test.true (omega arith) c.index-loops-at.is))
     ∙ c.loop-at.invariant

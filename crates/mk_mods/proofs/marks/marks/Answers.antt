@@ -17,8 +17,8 @@ loop-piece-preserved c =
     let made = map shown_mark c.loop-piece.marks.items in
     ap (λ l. l ++ later) c.in_ok-push_piece.ensures ∙ append_assoc made _ later
     ∙ ap (λ l. made ++ l)
-        (sym (ap (flat_map piece_marks) (map-next (piece_in_text c.args.text.now) c.deref-piece-items.result.now
-        c.loop-piece.piece-index _ (omega arith))))
+    (sym (ap (flat_map piece_marks) (map-next (piece_in_text c.args.text.now) c.deref-piece-items.result.now
+    c.loop-piece.piece-index _ (omega arith))))
     ∙ c.loop-piece.invariant
 
 pub returns-clause-ok : goal.returns-clause-ok
@@ -28,13 +28,13 @@ returns-clause-ok c =
     let found = map (piece_in_text text) c.deref-piece-items.result.now in
     let made = map shown_mark c.loop-piece.marks.items in
     let whole : found ≡ pieces_of (atoms_of text) = ap (map (piece_in_text text)) c.deref-piece-items.ensures.value
-        ∙ c.in_ok-pieces.ensures.pieces in
+    ∙ c.in_ok-pieces.ensures.pieces in
     ap (λ left. marks_if_whole left (flat_map piece_marks (pieces_of (atoms_of text)))) c.in_ok-pieces.ensures.whole
     ∙ ap (λ pieces. Some (flat_map piece_marks pieces)) (sym whole)
     ∙ ap Some
     (sym c.loop-piece.invariant
     ∙ ap (λ l. made ++ flat_map piece_marks l) (map-end (piece_in_text text) c.deref-piece-items.result.now c.loop-piece.piece-index
-        (omega arith)) ∙ append-nil made)
+    (omega arith)) ∙ append-nil made)
 
 pub returns-in_err-pieces-clause-err : goal.returns-in_err-pieces-clause-err
 returns-in_err-pieces-clause-err c =

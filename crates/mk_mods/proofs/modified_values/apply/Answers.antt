@@ -21,7 +21,7 @@ pub returns-in-Exclude-clause-ok : goal.returns-in-Exclude-clause-ok
 unfolding applied
 returns-in-Exclude-clause-ok c =
     subst (λ m. IfOk c.join_kept-in-Exclude.result (λ made. applied (action_of m) c.args.value.now ≡ Some (string_bytes made)))
-        (sym c.in-Exclude.is)
+    (sym c.in-Exclude.is)
     (ok-within c.join_kept-in-Exclude.result _ (rw c.as_str-in-Exclude.ensures.value at c.join_kept-in-Exclude.ensures.ok))
 
 pub returns-in-Exclude-clause-err : goal.returns-in-Exclude-clause-err
@@ -34,7 +34,7 @@ pub returns-in-Substitute-clause-ok : goal.returns-in-Substitute-clause-ok
 unfolding applied
 returns-in-Substitute-clause-ok c =
     subst (λ m. IfOk c.join_substituted.result (λ made. applied (action_of m) c.args.value.now ≡ Some (string_bytes made)))
-        (sym c.in-Substitute.is)
+    (sym c.in-Substitute.is)
     c.join_substituted.ensures.ok
 
 pub returns-in-Substitute-clause-err : goal.returns-in-Substitute-clause-err
@@ -59,13 +59,13 @@ pub returns-in-Suffix-clause-ok : goal.returns-in-Suffix-clause-ok
 unfolding applied
 returns-in-Suffix-clause-ok c =
     subst (λ m. IfOk c.join_changed-in-Suffix.result (λ made. applied (action_of m) c.args.value.now ≡ Some (string_bytes made)))
-        (sym c.in-Suffix.is)
+    (sym c.in-Suffix.is)
     (ok-within c.join_changed-in-Suffix.result _ (rw (c.as_str-in-Suffix.ensures.value, c.as_str-in-Suffix-2.ensures.value) at
-        c.join_changed-in-Suffix.ensures.ok))
+    c.join_changed-in-Suffix.ensures.ok))
 
 pub returns-in-Suffix-clause-err : goal.returns-in-Suffix-clause-err
 unfolding applied
 returns-in-Suffix-clause-err c =
     subst (λ m. IfErr c.join_changed-in-Suffix.result (IsUnmade (applied (action_of m) c.args.value.now))) (sym c.in-Suffix.is)
     (err-within c.join_changed-in-Suffix.result _ (rw (c.as_str-in-Suffix.ensures.value, c.as_str-in-Suffix-2.ensures.value) at
-        c.join_changed-in-Suffix.ensures.err))
+    c.join_changed-in-Suffix.ensures.err))

@@ -11,7 +11,7 @@ pub loop-span-init : goal.loop-span-init
 loop-span-init c =
     let change = map (changed_word c.args.change) in
     subst (λ made. Joining TEXT_LIMIT (joined (change (words_of c.args.value.now))) made (change (words_of c.args.value.now)))
-        (sym c.new-made.ensures.bytes)
+    (sym c.new-made.ensures.bytes)
     (joining-none TEXT_LIMIT (change (words_of c.args.value.now)))
 
 pub loop-span-preserved : goal.loop-span-preserved
@@ -20,10 +20,10 @@ loop-span-preserved c =
     let change = changed_word c.args.change in
     let spans = c.deref-span-items.result.now in
     let texts : map (span_text value) spans ≡ words_of value = ap (map (span_text value)) c.deref-span-items.ensures.value
-        ∙ c.in_ok-words.ensures.texts in
+    ∙ c.in_ok-words.ensures.texts in
     let next = next-word value spans (words_of value) c.loop-span.span-index record { start = 0; end = 0 } texts (omega arith) in
     joining-more _ _ _ _ _ _ _ c.loop-span.invariant (ap (map change) next) c.in_ok-add_changed.ensures.ok.0
-        (c.in_ok-add_changed.ensures.ok.1 ∙ ap (λ w. with_word (string_bytes c.loop-span.made) (change w)) c.of.ensures)
+    (c.in_ok-add_changed.ensures.ok.1 ∙ ap (λ w. with_word (string_bytes c.loop-span.made) (change w)) c.of.ensures)
 
 pub returns-in_err-add_changed-clause-err : goal.returns-in_err-add_changed-clause-err
 returns-in_err-add_changed-clause-err c =
@@ -31,7 +31,7 @@ returns-in_err-add_changed-clause-err c =
     let change = changed_word c.args.change in
     let spans = c.deref-span-items.result.now in
     let texts : map (span_text value) spans ≡ words_of value = ap (map (span_text value)) c.deref-span-items.ensures.value
-        ∙ c.in_ok-words.ensures.texts in
+    ∙ c.in_ok-words.ensures.texts in
     let next = next-word value spans (words_of value) c.loop-span.span-index record { start = 0; end = 0 } texts (omega arith) in
     let p = err_from_is_err_and c.from_residual-in_err-add_changed.result c.from_residual-in_err-add_changed.ensures.1 in
     rw (p.1, p.2)

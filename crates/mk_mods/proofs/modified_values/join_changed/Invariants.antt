@@ -9,4 +9,4 @@ use Rattle.mk_mods.proofs.modified_values.join_changed.Given as goal
 abbrev pub invariant-loop-span : goal.invariant-loop-span
 invariant-loop-span l =
     Joining TEXT_LIMIT (joined (map (changed_word l.change) (words_of l.value))) (string_bytes l.made)
-        (map (changed_word l.change) (drop l.span-index (words_of l.value)))
+    (map (changed_word l.change) (drop l.span-index (words_of l.value)))

@@ -28,10 +28,10 @@ loop-at-preserved c =
       | then-is w ↦
           subst₂ P (sym w.every-is) (sym w.once-is)
           (flags-every (flags_of all) c.loop-at.every c.loop-at.once (shown_mark mark) (drop at all) (drop (at + 1) all) c.loop-at.invariant
-              next (sym c.is.ensures ∙ w.if-is.true))
+          next (sym c.is.ensures ∙ w.if-is.true))
       | else-is+then-is-2 w ↦
           subst₂ P (sym w.every-is) (sym w.once-is)
           (flags-once (flags_of all) c.loop-at.every c.loop-at.once (shown_mark mark) (drop at all) (drop (at + 1) all) c.loop-at.invariant
-              next (sym c.is.ensures ∙ w.if-is.false)
+          next (sym c.is.ensures ∙ w.if-is.false)
           (sym w.is-else-is.ensures ∙ w.if-is-2.true))
     ]

@@ -14,7 +14,7 @@ loop-mark-init c =
     let shorter : length behind < length all =
     omega (arith, c.in_ok-first.ensures.shorter, length-map c.in_ok-first.behind.now shown_mark, length-map c.args.marks.now shown_mark) in
     subst (λ done. ReadsOn c.args.profile all done behind) (sym pushed)
-        (reads-first c.args.profile all behind (action_of c.in_ok-first.first) c.in_ok-first.ensures.ok shorter)
+    (reads-first c.args.profile all behind (action_of c.in_ok-first.first) c.in_ok-first.ensures.ok shorter)
 
 pub loop-mark-preserved : goal.loop-mark-preserved
 loop-mark-preserved c =
@@ -26,9 +26,14 @@ loop-mark-preserved c =
     let pushed : map action_of c.push-in-Some.new.self.items ≡ done ++ action_of c.in_ok-modifier.modifier ∷ [] =
     ap (map action_of) c.in_ok-push-2.ensures.items ∙ map_push action_of c.loop-mark.modifiers.items c.in_ok-modifier.modifier in
     let shorter : length rest < length later =
-    omega (arith, c.in_ok-modifier.ensures.shorter, length-map c.in_ok-modifier.rest.now shown_mark, length-map
-        c.in-Some.later.now shown_mark) in
+    omega (
+      arith,
+      c.in_ok-modifier.ensures.shorter,
+      length-map c.in_ok-modifier.rest.now shown_mark,
+      length-map
+          c.in-Some.later.now shown_mark,
+    ) in
     subst (λ done. ReadsOn c.args.profile all done rest) (sym pushed)
     (reads-more c.args.profile all done behind (action_of c.in_ok-modifier.modifier) (shown_mark c.in-Some.mark.now) later
-        rest c.loop-mark.invariant
+    rest c.loop-mark.invariant
     (ap (map shown_mark) c.in-Some.ensures.cases.0) (sym c.is.ensures ∙ c.if-not-is.false) c.in_ok-modifier.ensures.ok shorter)

@@ -17,7 +17,7 @@ returns-then-not-escaped-clause-read c =
     let colon : is_char 58 mark ≡ true = sym c.is.ensures ∙ c.if-is.true in
     let ends : (is_char 58 mark && not c.loop-at.escaped) ≡ true = rw (colon, c.if-not-escaped.true) in
     pattern-all (pattern_from false all) (string_bytes c.loop-at.pattern) c.loop-at.escaped mark (drop at all)
-        (drop (at + 1) all) c.loop-at.invariant
+    (drop (at + 1) all) c.loop-at.invariant
     (map-next shown_mark c.args.marks.now at (Char 0) (omega arith)) ends
     ∙ ap (λ l. (string_bytes c.loop-at.pattern, l)) (sym (map-rest shown_mark c.args.marks.now at))
 
@@ -33,6 +33,6 @@ loop-at-preserved c =
       | else-is-via-else-is w ↦ and_left (is_char 58 mark) (not c.loop-at.escaped) (sym c.is.ensures ∙ w.if-is.false)
     ] in
     pattern-more (pattern_from false all) (string_bytes c.loop-at.pattern) (string_bytes c.write_to.new.text) c.loop-at.escaped mark
-        (drop at all) (drop (at + 1) all) c.loop-at.invariant
+    (drop at all) (drop (at + 1) all) c.loop-at.invariant
     (map-next shown_mark c.args.marks.now at (Char 0) (omega arith)) inside c.in_ok-write_to.ensures
     ∙ ap (λ e. pattern_after (string_bytes c.write_to.new.text) (pattern_from e (drop (at + 1) all))) (sym c.is-escaped.ensures)

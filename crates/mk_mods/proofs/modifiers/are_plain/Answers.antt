@@ -13,6 +13,6 @@ loop-part-preserved c =
     let later = flat_map symbols_of (drop (c.loop-part.part-index + 1) all) in
     let next : flat_map symbols_of (drop c.loop-part.part-index all) ≡ symbols_of part ++ later =
     ap (flat_map symbols_of) (drop_more all c.loop-part.part-index part (omega arith))
-        ∙ ap (λ x. symbols_of x ++ later) (sym c.part-item.is) in
+    ∙ ap (λ x. symbols_of x ++ later) (sym c.part-item.is) in
     AllPlain-more part (flat_map symbols_of all) later c.in_default.not-Reference
-        (subst (λ symbols. AllPlain (flat_map symbols_of all) ↔ AllPlain symbols) next c.loop-part.invariant)
+    (subst (λ symbols. AllPlain (flat_map symbols_of all) ↔ AllPlain symbols) next c.loop-part.invariant)

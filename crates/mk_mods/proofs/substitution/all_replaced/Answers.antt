@@ -13,7 +13,7 @@ loop-front-preserved c =
     let behind = c.in-Some.behind.now in
     let made = string_bytes c.loop-front.made in
     let cut = all_replaced-cut old new c.loop-front.rest.now front behind c.requires
-        (cut-of old c.loop-front.rest.now (Some (c.in-Some.front, c.in-Some.behind)) c.in-Some.ensures.cases) in
+    (cut-of old c.loop-front.rest.now (Some (c.in-Some.front, c.in-Some.behind)) c.in-Some.ensures.cases) in
     record {
       text = after-utf8 old c.loop-front.rest.now c.in-Some.front c.in-Some.behind c.in-Some.ensures.cases c.loop-front.invariant.text;
       small = c.in_ok-add_text-2.ensures.ok.0;
@@ -32,13 +32,18 @@ returns-in_err-add_text-clause-err c =
     let behind = c.in-Some.behind.now in
     let made = string_bytes c.loop-front.made in
     let cut = all_replaced-cut old new c.loop-front.rest.now front behind c.requires
-        (cut-of old c.loop-front.rest.now (Some (c.in-Some.front, c.in-Some.behind)) c.in-Some.ensures.cases) in
+    (cut-of old c.loop-front.rest.now (Some (c.in-Some.front, c.in-Some.behind)) c.in-Some.ensures.cases) in
     let p = err_from_is_err_and c.from_residual-in_err-add_text.result c.from_residual-in_err-add_text.ensures.1 in
     rw (p.1, p.2)
     (too_long-over _ _ _
-    (omega (arith, ap length (ap (λ l. made ++ l) (sym cut) ∙ c.loop-front.invariant.goes), length-append made
-        (front ++ (new ++ all_replaced old new zero behind)), length-append front (new ++ all_replaced old new zero behind),
-        length-append made front))
+    (omega (
+      arith,
+      ap length (ap (λ l. made ++ l) (sym cut) ∙ c.loop-front.invariant.goes),
+      length-append made
+          (front ++ (new ++ all_replaced old new zero behind)),
+      length-append front (new ++ all_replaced old new zero behind),
+      length-append made front,
+    ))
     c.in_err-add_text.ensures.err)
 
 pub returns-in_err-add_text-2-clause-err : goal.returns-in_err-add_text-2-clause-err
@@ -50,25 +55,33 @@ returns-in_err-add_text-2-clause-err c =
     let made = string_bytes c.loop-front.made in
     let later = all_replaced old new zero behind in
     let cut = all_replaced-cut old new c.loop-front.rest.now front behind c.requires
-        (cut-of old c.loop-front.rest.now (Some (c.in-Some.front, c.in-Some.behind)) c.in-Some.ensures.cases) in
+    (cut-of old c.loop-front.rest.now (Some (c.in-Some.front, c.in-Some.behind)) c.in-Some.ensures.cases) in
     let p = err_from_is_err_and c.from_residual-in_err-add_text-2.result c.from_residual-in_err-add_text-2.ensures.1 in
     rw (p.1, p.2)
     (too_long-over _ _ _
-    (omega (arith, ap length (ap (λ l. made ++ l) (sym cut) ∙ c.loop-front.invariant.goes), length-append made (front ++ (new ++ later)),
-        length-append front (new ++ later), length-append new later, length-append made front, length-append
-    (string_bytes c.add_text.new.made) new, ap length c.in_ok-add_text.ensures.ok.1))
+    (omega (
+      arith,
+      ap length (ap (λ l. made ++ l) (sym cut) ∙ c.loop-front.invariant.goes),
+      length-append made (front ++ (new ++ later)),
+      length-append front (new ++ later),
+      length-append new later,
+      length-append made front,
+      length-append
+          (string_bytes c.add_text.new.made) new,
+      ap length c.in_ok-add_text.ensures.ok.1,
+    ))
     c.in_err-add_text-2.ensures.err)
 
 pub returns-in_err-add_text-3-clause-err : goal.returns-in_err-add_text-3-clause-err
 returns-in_err-add_text-3-clause-err c =
     let whole = all_replaced-end c.args.old.now c.args.new.now (string_bytes c.loop-front.made) c.loop-front.rest.now _ None refl
-        c.in_default.ensures.cases c.loop-front.invariant.goes in
+    c.in_default.ensures.cases c.loop-front.invariant.goes in
     let p = err_from_is_err_and c.from_residual-in_err-add_text-3.result c.from_residual-in_err-add_text-3.ensures.1 in
     rw (p.1, p.2) (too_long-over _ _ _ (omega (arith, ap length whole)) c.in_err-add_text-3.ensures.err)
 
 pub returns-clause-ok : goal.returns-clause-ok
 returns-clause-ok c =
     let whole = all_replaced-end c.args.old.now c.args.new.now (string_bytes c.loop-front.made) c.loop-front.rest.now _ None refl
-        c.in_default.ensures.cases c.loop-front.invariant.goes in
+    c.in_default.ensures.cases c.loop-front.invariant.goes in
     let is = c.in_ok-add_text-3.ensures.ok.1 ∙ whole in
     (omega (arith, ap length is, c.in_ok-add_text-3.ensures.ok.0), is)

@@ -16,7 +16,7 @@ returns-clause-ok c =
     let new = string_bytes c.in_ok-new.new in
     let is_old : within_limit (text_of [] s.old) ≡ Some old =
     ap (λ parts. within_limit (text_of [] (flat_map symbols_of parts))) (sym c.deref.ensures.value)
-        ∙ within-made _ c.in_ok-old.old c.in_ok-old.ensures.ok in
+    ∙ within-made _ c.in_ok-old.old c.in_ok-old.ensures.ok in
     let is_new : within_limit (text_of old s.new) ≡ Some new =
     ap (λ parts. within_limit (text_of old (flat_map symbols_of parts))) (sym c.deref-2.ensures.value)
     ∙ ap (λ o. within_limit (text_of o (flat_map symbols_of c.deref-2.result.now))) (sym c.as_str.ensures.value)
@@ -33,7 +33,7 @@ returns-clause-err c =
     let new = string_bytes c.in_ok-new.new in
     let is_old : within_limit (text_of [] s.old) ≡ Some old =
     ap (λ parts. within_limit (text_of [] (flat_map symbols_of parts))) (sym c.deref.ensures.value)
-        ∙ within-made _ c.in_ok-old.old c.in_ok-old.ensures.ok in
+    ∙ within-made _ c.in_ok-old.old c.in_ok-old.ensures.ok in
     let is_new : within_limit (text_of old s.new) ≡ Some new =
     ap (λ parts. within_limit (text_of old (flat_map symbols_of parts))) (sym c.deref-2.ensures.value)
     ∙ ap (λ o. within_limit (text_of o (flat_map symbols_of c.deref-2.result.now))) (sym c.as_str.ensures.value)
@@ -48,8 +48,8 @@ returns-in_err-new-clause-err c =
     let old = string_bytes c.in_ok-old.old in
     let is_old : within_limit (text_of [] s.old) ≡ Some old =
     ap (λ parts. within_limit (text_of [] (flat_map symbols_of parts))) (sym c.deref.ensures.value)
-        ∙ within-made _ c.in_ok-old.old c.in_ok-old.ensures.ok in
+    ∙ within-made _ c.in_ok-old.old c.in_ok-old.ensures.ok in
     let p = err_from_is_err_and c.from_residual-in_err-new.result c.from_residual-in_err-new.ensures.1 in
     rw (p.1, p.2)
     (substituted-unmade s (words_of c.args.value.now) old _ is_old (rw (c.as_str.ensures.value, c.deref-2.ensures.value) at
-        c.in_err-new.ensures.err))
+    c.in_err-new.ensures.err))

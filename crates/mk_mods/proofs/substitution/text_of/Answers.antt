@@ -18,7 +18,7 @@ loop-part-preserved c =
     let later = flat_map symbols_of (drop (c.loop-part.part-index + 1) all) in
     let next : flat_map symbols_of (drop c.loop-part.part-index all) ≡ symbols_of part ++ later =
     ap (flat_map symbols_of) (drop_more all c.loop-part.part-index part (omega arith))
-        ∙ ap (λ x. symbols_of x ++ later) (sym c.part-item.is) in
+    ∙ ap (λ x. symbols_of x ++ later) (sym c.part-item.is) in
     let plain = AllPlain-right (symbols_of part) later (subst AllPlain next c.loop-part.invariant.plain) in
     let made = string_bytes c.loop-part.made in
     elim c.match-part.branch [
@@ -53,14 +53,21 @@ returns-in_err-add_text-in-Text-clause-err c =
     let later = flat_map symbols_of (drop (c.loop-part.part-index + 1) all) in
     let next : flat_map symbols_of (drop c.loop-part.part-index all) ≡ symbols_of part ++ later =
     ap (flat_map symbols_of) (drop_more all c.loop-part.part-index part (omega arith))
-        ∙ ap (λ x. symbols_of x ++ later) (sym c.part-item.is) in
+    ∙ ap (λ x. symbols_of x ++ later) (sym c.part-item.is) in
     let made = string_bytes c.loop-part.made in
     let bytes = string_bytes c.in-Text.text in
     let is : text_of old (symbols_of part) ≡ bytes = ap (λ x. text_of old (symbols_of x)) c.in-Text.is ∙ text_of-bytes old bytes in
     let whole = sym (text_of-part old made bytes (symbols_of part) later is) ∙ ap (λ l. made ++ text_of old l) (sym next)
-        ∙ c.loop-part.invariant.goes in
+    ∙ c.loop-part.invariant.goes in
     let p = err_from_is_err_and c.from_residual.result c.from_residual.ensures.1 in
     rw (p.1, p.2)
-    (too_long-over _ _ _ (omega (arith, ap length whole, length-append (made ++ bytes) (text_of old later), ap length
-        c.as_str.ensures.value, length-append made bytes, length-append made c.as_str.result.now))
+    (too_long-over _ _ _ (omega (
+      arith,
+      ap length whole,
+      length-append (made ++ bytes) (text_of old later),
+      ap length
+          c.as_str.ensures.value,
+      length-append made bytes,
+      length-append made c.as_str.result.now,
+    ))
     c.in_err-add_text-in-Text.ensures.err)

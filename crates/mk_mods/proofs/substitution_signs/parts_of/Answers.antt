@@ -13,5 +13,5 @@ loop-sign-preserved c =
     let made = flat_map symbols_of c.loop-sign.parts.items ++ map Byte (string_bytes c.loop-sign.text) in
     ap (λ l. l ++ later) c.in_ok-text.ensures ∙ append_assoc made _ later
     ∙ ap (λ l. made ++ l)
-        (sym (ap (flat_map (sign_symbols c.args.in_new)) (map-next shown_sign c.args.signs.now c.loop-sign.sign-index _ (omega arith))))
+    (sym (ap (flat_map (sign_symbols c.args.in_new)) (map-next shown_sign c.args.signs.now c.loop-sign.sign-index _ (omega arith))))
     ∙ c.loop-sign.invariant

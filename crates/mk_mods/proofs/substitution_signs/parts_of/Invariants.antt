@@ -9,4 +9,4 @@ abbrev pub invariant-loop-sign : goal.invariant-loop-sign
 invariant-loop-sign l =
     let signs = map shown_sign l.signs in
     (flat_map symbols_of l.parts.items ++ map Byte (string_bytes l.text)) ++ flat_map (sign_symbols l.in_new) (drop l.sign-index signs) ≡
-        flat_map (sign_symbols l.in_new) signs
+    flat_map (sign_symbols l.in_new) signs

@@ -28,11 +28,11 @@ loop-at-preserved c =
     let pushed : map shown_sign c.push.new.self.items ≡ map shown_sign c.loop-at.signs.items ++ shown_sign sign ∷ [] =
     ap (map shown_sign) c.in_ok-push.ensures.items ∙ map_push shown_sign c.loop-at.signs.items sign in
     let wide : width ≤ length (drop (at + 1) all) + 1 = subst (λ s. s.1 ≤ length (drop (at + 1) all) + 1) (sym is)
-        (sign_at-width c.args.delimiter (shown_mark mark) (drop (at + 1) all)).1 in
+    (sign_at-width c.args.delimiter (shown_mark mark) (drop (at + 1) all)).1 in
     record {
       within = omega (arith, wide, length-drop (at + 1) all, length-map c.args.marks.now shown_mark);
       read = subst (λ front. ReadAs c.args.delimiter all front (at + width)) (sym pushed)
           (read-more c.args.delimiter all (map shown_sign c.loop-at.signs.items) at (shown_mark mark) (shown_sign sign) width
-              c.loop-at.invariant.read
+          c.loop-at.invariant.read
           (map-next shown_mark c.args.marks.now at (Char 0) (omega arith)) (sym c.is.ensures ∙ c.if-is.false) is);
     }

@@ -14,7 +14,7 @@ loop-at-preserved c =
     let at = c.loop-at.at in
     let mark = get_or marks at (Char 0) in
     cut-more c.args.character (cut_before c.args.character all) (map shown_mark (take at marks)) (map shown_mark (take (at + 1) marks))
-        (shown_mark mark) (drop at all) (drop (at + 1) all)
+    (shown_mark mark) (drop at all) (drop (at + 1) all)
     c.loop-at.invariant (map-next shown_mark marks at (Char 0) (omega arith)) (sym c.is.ensures ∙ c.if-is.false)
     (ap (map shown_mark) (take_more marks at (Char 0) (omega arith)) ∙ map_push shown_mark (take at marks) mark)
 
@@ -25,7 +25,7 @@ returns-then-is-clause-cut c =
     let at = c.loop-at.at in
     let mark = get_or marks at (Char 0) in
     cut-here c.args.character (cut_before c.args.character all) (map shown_mark (take at marks)) (shown_mark mark)
-        (drop at all) (drop (at + 1) all)
+    (drop at all) (drop (at + 1) all)
     c.loop-at.invariant (map-next shown_mark marks at (Char 0) (omega arith)) (sym c.is.ensures ∙ c.if-is.true)
     ∙ ap (λ l. (map shown_mark (take at marks), l)) (sym (map-rest shown_mark marks at))
 
@@ -35,5 +35,5 @@ returns-clause-cut c =
     let all = map shown_mark marks in
     let at = c.loop-at.at in
     cut-end c.args.character (cut_before c.args.character all) (map shown_mark (take at marks)) (drop at all) c.loop-at.invariant
-        (map-end shown_mark marks at (omega arith))
+    (map-end shown_mark marks at (omega arith))
     ∙ ap (λ l. (map shown_mark l, [])) (take_all at marks (omega arith))

@@ -7,4 +7,4 @@ use Rattle.mk_mods.proofs.suffix_modifier.cut_before.Given as goal
 abbrev pub invariant-loop-at : goal.invariant-loop-at
 invariant-loop-at l =
     let marks = map shown_mark l.marks in cut_before l.character marks ≡ cut_after (map shown_mark (take l.at l.marks))
-        (cut_before l.character (drop l.at marks))
+    (cut_before l.character (drop l.at marks))

@@ -19,4 +19,4 @@ returns c =
     let marks = map shown_mark c.args.marks.now in
     let text = string_bytes c.loop-mark.text in
     sym (append-nil text) ∙ ap (λ l. text ++ flat_map mark_source l)
-        (sym (map-end shown_mark c.args.marks.now c.loop-mark.mark-index (omega arith))) ∙ c.loop-mark.invariant
+    (sym (map-end shown_mark c.args.marks.now c.loop-mark.mark-index (omega arith))) ∙ c.loop-mark.invariant

@@ -8,7 +8,7 @@ use Rattle.mk_mods.proofs.word_maps.add_with_suffix.Goals as goal
 pub returns-in-Some-clause-ok : goal.returns-in-Some-clause-ok
 returns-in-Some-clause-ok c =
     subst (λ word. IfOk c.add_two.result (λ _. (length (string_bytes c.add_two.new.made) ≤ TEXT_LIMIT)
-        × (string_bytes c.add_two.new.made ≡ with_word (string_bytes c.args.made.now) word)))
+    × (string_bytes c.add_two.new.made ≡ with_word (string_bytes c.args.made.now) word)))
     (sym (suffix-some c.args.old.now c.args.new.now c.args.word.now c.in-Some.front.now c.in-Some.ensures.cases)) c.add_two.ensures.ok
 
 pub returns-in-Some-clause-err : goal.returns-in-Some-clause-err
@@ -19,7 +19,7 @@ returns-in-Some-clause-err c =
 pub returns-in-None-clause-ok : goal.returns-in-None-clause-ok
 returns-in-None-clause-ok c =
     subst (λ word. IfOk c.add_word.result (λ _. (length (string_bytes c.add_word.new.made) ≤ TEXT_LIMIT)
-        × (string_bytes c.add_word.new.made ≡ with_word (string_bytes c.args.made.now) word)))
+    × (string_bytes c.add_word.new.made ≡ with_word (string_bytes c.args.made.now) word)))
     (sym (suffix-none c.args.old.now c.args.new.now c.args.word.now c.in-None.ensures.cases)) c.add_word.ensures.ok
 
 pub returns-in-None-clause-err : goal.returns-in-None-clause-err

@@ -8,14 +8,14 @@ pub returns-then-is_empty : goal.returns-then-is_empty
 returns-then-is_empty c =
     sym
     (ap (λ o. option_map_or (λ parts. or_slash parts.0) o (46 ∷ []))
-        (around_of 47 c.args.word.now (Some (c.in-Some.head, c.in-Some.field-0-1)) c.in-Some.ensures.cases (lit< tt))
+    (around_of 47 c.args.word.now (Some (c.in-Some.head, c.in-Some.field-0-1)) c.in-Some.ensures.cases (lit< tt))
     ∙ or_slash-empty c.in-Some.head.now (sym c.is_empty.ensures ∙ c.if-is_empty.true))
 
 pub returns-else-is_empty : goal.returns-else-is_empty
 returns-else-is_empty c =
     sym
     (ap (λ o. option_map_or (λ parts. or_slash parts.0) o (46 ∷ []))
-        (around_of 47 c.args.word.now (Some (c.in-Some.head, c.in-Some.field-0-1)) c.in-Some.ensures.cases (lit< tt))
+    (around_of 47 c.args.word.now (Some (c.in-Some.head, c.in-Some.field-0-1)) c.in-Some.ensures.cases (lit< tt))
     ∙ or_slash-other c.in-Some.head.now (sym c.is_empty.ensures ∙ c.if-is_empty.false))
 
 pub returns-in-None : goal.returns-in-None

@@ -6,7 +6,7 @@ use Rattle.mk_mods.proofs.word_maps.root.Goals as goal
 pub returns-in-Some : goal.returns-in-Some
 returns-in-Some c =
     sym (ap (λ o. option_map_or (λ parts. parts.0) o c.args.word.now)
-        (around_of 46 c.args.word.now (Some (c.in-Some.root, c.in-Some.field-0-1)) c.in-Some.ensures.cases (lit< tt)))
+    (around_of 46 c.args.word.now (Some (c.in-Some.root, c.in-Some.field-0-1)) c.in-Some.ensures.cases (lit< tt)))
 
 pub returns-in-None : goal.returns-in-None
 returns-in-None c = sym (ap (λ o. option_map_or (λ parts. parts.0) o c.args.word.now)

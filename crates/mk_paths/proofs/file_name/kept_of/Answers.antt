@@ -14,7 +14,7 @@ next_taken : (kept : List (List ℕ)) (parts : List (Bor (List ℕ))) (i : ℕ) 
 unfolding kept_parts
 next_taken kept parts i d next inside taken =
     at_drop_more (λ rest. kept_parts kept (now_all rest)) parts i d inside
-        ∙ ap (option_and_then (λ more. kept_parts more (now_all (drop (i + 1) parts)))) taken
+    ∙ ap (option_and_then (λ more. kept_parts more (now_all (drop (i + 1) parts)))) taken
 
 -- no part is left
 none_left : (kept : List (List ℕ)) (parts : List (Bor (List ℕ))) (i : ℕ) → length parts ≤ i
@@ -25,14 +25,14 @@ none_left kept parts i past = at_drop_all (λ rest. kept_parts kept (now_all res
 pub returns-then-not-placed : goal.returns-then-not-placed
 returns-then-not-placed c =
     sym (next_taken (now_all c.loop-part.kept.items) c.args.parts.now c.loop-part.part-index _ None c.loop-part-test.true
-        (c.in_ok-placed.ensures ∙ ap (λ b. cond b (Some (now_all c.take_part.new.kept.items)) None) c.if-not-placed.true))
+    (c.in_ok-placed.ensures ∙ ap (λ b. cond b (Some (now_all c.take_part.new.kept.items)) None) c.if-not-placed.true))
     ∙ c.loop-part.invariant
 
 pub loop-part-preserved : goal.loop-part-preserved
 loop-part-preserved c =
     sym (next_taken (now_all c.loop-part.kept.items) c.args.parts.now c.loop-part.part-index _ (Some (now_all c.take_part.new.kept.items))
-        c.loop-part-test.true (c.in_ok-placed.ensures
-        ∙ ap (λ b. cond b (Some (now_all c.take_part.new.kept.items)) None) c.if-not-placed.false))
+    c.loop-part-test.true (c.in_ok-placed.ensures
+    ∙ ap (λ b. cond b (Some (now_all c.take_part.new.kept.items)) None) c.if-not-placed.false))
     ∙ c.loop-part.invariant
 
 pub returns : goal.returns

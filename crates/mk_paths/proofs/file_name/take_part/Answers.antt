@@ -15,4 +15,4 @@ kept_part kept part a b e = grind (arith, common_steps)
 pub returns-in_ok-push-in_default : goal.returns-in_ok-push-in_default
 returns-in_ok-push-in_default c =
     kept_part _ _ (search rules) (search rules) (search rules)
-        ∙ ap Some (sym (ap now_all c.in_ok-push-in_default.ensures.items ∙ map_push (λ text. text.now) c.args.kept.now.items c.args.part))
+    ∙ ap Some (sym (ap now_all c.in_ok-push-in_default.ensures.items ∙ map_push (λ text. text.now) c.args.kept.now.items c.args.part))

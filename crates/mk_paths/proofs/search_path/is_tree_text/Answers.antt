@@ -14,7 +14,7 @@ not_tree (first ∷ part) none =
 pub returns-in-Some : goal.returns-in-Some
 returns-in-Some c =
     let cut : c.args.text.now ≡ 47 ∷ c.in-Some.part.now = strip_prefix_char 47 c.args.text.now (Some c.in-Some.part)
-        c.in-Some.ensures.cases (lit< tt) in
+    c.in-Some.ensures.cases (lit< tt) in
     rw cut c.is_part_text.ensures
 
 pub returns-in-None : goal.returns-in-None

@@ -11,12 +11,12 @@ use Rattle.mk_ref.proofs.ends.inside_from.Goals.{else-bytes-at-eq58-via-else-byt
 pub returns-then-bytes-at : goal.returns-then-bytes-at
 returns-then-bytes-at c =
     inside-close c.args.bytes.now c.args.start c.args.closing c.loop-at.colon c.loop-at.at c.loop-at.invariant
-        c.loop-at-test.true c.if-bytes-at.true
+    c.loop-at-test.true c.if-bytes-at.true
 
 pub returns-in-None : goal.returns-in-None
 returns-in-None c =
     inside-broken c.args.bytes.now c.args.start c.args.closing c.loop-at.colon c.loop-at.at c.loop-at.invariant
-        c.loop-at-test.true c.if-bytes-at.false
+    c.loop-at-test.true c.if-bytes-at.false
     (subst (AtomEndsAt c.args.bytes.now c.loop-at.at) c.in-None.is c.in_ok-behind.ensures)
 
 -- the first colon so far, at this byte
@@ -41,13 +41,13 @@ loop-at-preserved c =
     let behind = c.in-Some.behind in
     let b = get_or text at 0 in
     let more = inside-more text c.args.start c.args.closing c.loop-at.colon at behind c.loop-at.invariant
-        c.loop-at-test.true c.if-bytes-at.false
+    c.loop-at-test.true c.if-bytes-at.false
     (subst (AtomEndsAt text at) c.in-Some.is c.in_ok-behind.ensures) in
     let P : Option ℕ → Type 0 = λ o. InsideSoFar text c.args.start c.args.closing o behind in
     elim c.if-bytes-at-eq58.branch [
       | then-bytes-at-eq58+then-is_none w ↦
           subst P (sym (w.colon-is ∙ first_here c.loop-at.colon b at (w.is_none.ensures ∙ ap not w.if-is_none.true)
-              w.if-bytes-at-eq58.true)) more
+          w.if-bytes-at-eq58.true)) more
       | else-bytes-at-eq58 w ↦
           elim w.else-bytes-at-eq58.branch [
             | else-bytes-at-eq58-via-then-bytes-at-eq58+else-is_none v ↦

@@ -8,5 +8,5 @@ returns-in-Ok c =
     let text = c.args.text.now in
     subst (λ l. IfOk c.covered.result (λ bytes. bytes.items ≡ l))
     (outside-whole text (map (piece_in_text text) c.as_slice.result.now) (ap (map (piece_in_text text)) c.as_slice.ensures.value
-        ∙ c.in-Ok.ensures.pieces) c.in-Ok.ensures.whole)
+    ∙ c.in-Ok.ensures.pieces) c.in-Ok.ensures.whole)
     c.covered.ensures

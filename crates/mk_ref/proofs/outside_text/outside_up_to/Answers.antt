@@ -15,18 +15,18 @@ from_start text front at is = let all : at - 0 ≡ at = omega arith in is ∙ ap
 pub range-front-requires-clause-end_boundary : goal.range-front-requires-clause-end_boundary
 range-front-requires-clause-end_boundary c =
     IsCharBoundary-before_ascii c.args.text.now c.args.at c.requires.inside
-        (subst (λ b. b < 128) (sym (unclosed-dollar c.args.text.now c.args.at c.requires)) (lit< tt))
+    (subst (λ b. b < 128) (sym (unclosed-dollar c.args.text.now c.args.at c.requires)) (lit< tt))
 
 pub range_from-requires : goal.range_from-requires
 range_from-requires c = λ some.
     IsCharBoundary-before_ascii c.args.text.now c.args.at c.requires.inside
-        (subst (λ b. b < 128) (sym (unclosed-dollar c.args.text.now c.args.at c.requires)) (lit< tt))
+    (subst (λ b. b < 128) (sym (unclosed-dollar c.args.text.now c.args.at c.requires)) (lit< tt))
 
 pub unreachable-requires : goal.unreachable-requires
 unreachable-requires c =
     let front = c.range-front.result.now in
     front-ends c.args.text.now front c.args.at c.in-Err-Unclosed.field-0-0 c.requires
-        (from_start c.args.text.now front c.args.at c.range-front.ensures.value)
+    (from_start c.args.text.now front c.args.at c.range-front.ensures.value)
     (subst (IsFaultOf front) c.in-Err-Unclosed.field-0-is c.in-Err-Unclosed.ensures.fault)
 
 pub returns-in_ok-push_dollars-in-Ok : goal.returns-in_ok-push_dollars-in-Ok
@@ -38,4 +38,4 @@ returns-in_ok-push_dollars-in-Ok c =
     ∙ ap (λ l. flat_map covered_piece found ++ dollars l) c.range_from.ensures.value
     ∙ outside-unclosed text c.args.at found c.requires
     (ap (map (piece_in_text front)) c.as_slice.ensures.value ∙ c.in-Ok.ensures.pieces
-        ∙ ap (λ l. pieces_of (atoms_of l)) (from_start text front c.args.at c.range-front.ensures.value))
+    ∙ ap (λ l. pieces_of (atoms_of l)) (from_start text front c.args.at c.range-front.ensures.value))

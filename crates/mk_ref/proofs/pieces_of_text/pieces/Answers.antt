@@ -27,10 +27,10 @@ loop-at-preserved c =
     let at = c.loop-at.at in
     let piece = c.in-Some-2.piece in
     subst (λ l. CutSoFar text l c.end-at.result c.end-at.result)
-        (sym (c.in_ok-push.ensures ∙ ap (λ l. l ++ piece ∷ []) c.in_ok-push_literal.ensures))
+    (sym (c.in_ok-push.ensures ∙ ap (λ l. l ++ piece ∷ []) c.in_ok-push_literal.ensures))
     (subst (λ n. CutSoFar text ((c.loop-at.found.items ++ literal_at c.loop-at.literal at) ++ piece ∷ []) n n) (sym c.end-at.ensures)
     (so_far-piece text c.loop-at.found.items c.loop-at.literal at piece c.loop-at.invariant
-        (subst (BeginsAt text at) c.in-Some-2.is c.in_ok-piece.ensures)))
+    (subst (BeginsAt text at) c.in-Some-2.is c.in_ok-piece.ensures)))
 
 every : (c : goal.In_ok-push_literal-2) → AllCut c.args.text.now c.push_literal-2.new.found.items
 every c =
@@ -38,7 +38,7 @@ every c =
     let at = c.loop-at.at in
     subst (AllCut text) (sym c.in_ok-push_literal-2.ensures)
     (all-cut text c.loop-at.found.items c.loop-at.literal at c.loop-at.invariant
-        (subst (λ l. length l ≤ at) c.as_bytes-bytes.ensures.value c.loop-at-test.false))
+    (subst (λ l. length l ≤ at) c.as_bytes-bytes.ensures.value c.loop-at-test.false))
 
 pub returns-clause-pieces : goal.returns-clause-pieces
 returns-clause-pieces c = (every c).pieces

@@ -11,4 +11,4 @@ returns-then-next-as_slice-clause-costs c =
     let same : length c.as_slice.result.now ≡ length items = ap length (c.as_slice.ensures.value ∙ ap (λ v. v.items) c.deref.ensures) in
     let within : left.next < length items = omega (arith, same, c.if-next-as_slice.true) in
     costs-later (site_of c.args.site.value) items
-        (last_branch (option_map block_of (option_map (λ block. block.value.items) left.otherwise))) left.next within
+    (last_branch (option_map block_of (option_map (λ block. block.value.items) left.otherwise))) left.next within

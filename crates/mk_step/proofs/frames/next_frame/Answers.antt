@@ -22,10 +22,10 @@ pub returns-in-Some-settled-clause-alike : goal.returns-in-Some-settled-clause-a
 returns-in-Some-settled-clause-alike c =
     let new = c.pop.new.self.items in
     pops (frames_of c.args.frames.now.items) c.loop-frame.frames.items new c.in-Some.frame (Some c.in-Some-settled.frame)
-        c.in-Some.ensures.items c.loop-frame.invariant.alike (c.in-Some-settled.ensures.alike (frames_of new))
+    c.in-Some.ensures.items c.loop-frame.invariant.alike (c.in-Some-settled.ensures.alike (frames_of new))
 
 pub returns-in-Some-settled-clause-lighter : goal.returns-in-Some-settled-clause-lighter
 returns-in-Some-settled-clause-lighter c =
     let new = c.pop.new.self.items in
     weighs (weight (frames_of c.args.frames.now.items)) c.loop-frame.frames.items new c.in-Some.frame (Some c.in-Some-settled.frame)
-        c.in-Some.ensures.items c.loop-frame.invariant.lighter (c.in-Some-settled.ensures.lighter (frames_of new))
+    c.in-Some.ensures.items c.loop-frame.invariant.lighter (c.in-Some-settled.ensures.lighter (frames_of new))

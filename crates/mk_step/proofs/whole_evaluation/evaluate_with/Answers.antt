@@ -22,7 +22,7 @@ returns-in-Ok-Done-Ok g c =
     let done = c.in-Ok-Done-Ok.field-0-is ∙ ap Done c.in-Ok-Done-Ok.field-0-0-is in
     let tells = subst (λ turned. TellsIfDone (Ok turned) (means (old.files, settings) name flavors)) done c.in-Ok-Done-Ok.ensures.means in
     let leaves = subst (λ turned. Leaves may old new (old.files, settings) name flavors [] (Ok turned)) done
-        c.in-Ok-Done-Ok.ensures.leaves in
+    c.in-Ok-Done-Ok.ensures.leaves in
     record {
       means = tells;
       files = asked-all may old new settings name flavors answer tells leaves;
@@ -43,7 +43,7 @@ returns-in-Ok-Done-Err g c =
     let done = c.in-Ok-Done-Err.field-0-is ∙ ap Done c.in-Ok-Done-Err.field-0-0-is in
     let tells = subst (λ turned. TellsIfDone (Ok turned) (means (old.files, settings) name flavors)) done c.in-Ok-Done-Err.ensures.means in
     let leaves = subst (λ turned. Leaves may old new (old.files, settings) name flavors [] (Ok turned)) done
-        c.in-Ok-Done-Err.ensures.leaves in
+    c.in-Ok-Done-Err.ensures.leaves in
     record {
       means = tells;
       files = asked-all may old new settings name flavors answer tells leaves;

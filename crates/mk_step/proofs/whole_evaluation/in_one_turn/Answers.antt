@@ -16,7 +16,7 @@ returns-in-Ok-More g c =
     let flavors = flavors_in c.args.flavors in
     let machine = c.in-Ok-More.machine in
     let begun = subst (λ turned. Leaves may old middle (old.files, settings) name flavors [] (Ok turned)) c.in-Ok-More.field-0-is
-        c.in-Ok-More.ensures.leaves in
+    c.in-Ok-More.ensures.leaves in
     let free = subst (λ turned. IsNew (Ok turned)) c.in-Ok-More.field-0-is c.in-Ok-More.ensures.free in
     let has = under-way may old new settings name flavors middle machine begun in
     record {

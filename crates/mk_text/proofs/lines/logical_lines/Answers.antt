@@ -16,8 +16,11 @@ pub overflow_add-number : goal.overflow_add-number
 overflow_add-number c =
     let k : cuts c.loop-piece.piece-iterator (Some c.in-Some.piece) c.next.new.self = c.in-Some.ensures.steps in
     let fits : length c.args.text.now * 1 < 9223372036854775808 = c.well_formed.1.0.1 in
-    omega (arith, number_below c.args.text.now c.loop-piece.lines.items c.loop-piece.open c.loop-piece.number c.loop-piece.piece-iterator
-        c.next.new.self c.in-Some.piece c.loop-piece.invariant k)
+    omega (
+      arith,
+      number_below c.args.text.now c.loop-piece.lines.items c.loop-piece.open c.loop-piece.number c.loop-piece.piece-iterator
+          c.next.new.self c.in-Some.piece c.loop-piece.invariant k,
+    )
 
 -- the run of an iteration, before it is known whether it goes on
 extends-open : (c : goal.Then-goes_on) → Extends c.loop-piece.open c.loop-piece.number c.in-Some.piece.now c.match-open.run
@@ -44,7 +47,7 @@ pub loop-piece-preserved-then-goes_on : goal.loop-piece-preserved-then-goes_on
 loop-piece-preserved-then-goes_on c =
     let k : cuts c.loop-piece.piece-iterator (Some c.in-Some.piece) c.next.new.self = c.in-Some.ensures.steps in
     so_far-open c.args.text.now c.loop-piece.lines.items c.loop-piece.open c.loop-piece.number c.loop-piece.piece-iterator c.next.new.self
-        c.in-Some.piece c.loop-piece.invariant k
+    c.in-Some.piece c.loop-piece.invariant k
     c.match-open.run (extends-open c) (sym c.goes_on.ensures ∙ c.if-goes_on.true)
 
 pub loop-piece-preserved : goal.loop-piece-preserved
@@ -53,7 +56,7 @@ loop-piece-preserved c =
     let pushed = c.in_ok-push.ensures.items ∙ ap (λ l. c.loop-piece.lines.items ++ l ∷ []) c.in_ok-finish.ensures in
     subst (λ l. LinesSoFar c.args.text.now l None (c.loop-piece.number + 1) c.next.new.self) (sym pushed)
     (so_far-line c.args.text.now c.loop-piece.lines.items c.loop-piece.open c.loop-piece.number c.loop-piece.piece-iterator c.next.new.self
-        c.in-Some.piece c.loop-piece.invariant k
+    c.in-Some.piece c.loop-piece.invariant k
     c.match-open.run (extends-last c) (sym c.goes_on.ensures ∙ c.if-goes_on.false))
 
 pub returns : goal.returns
@@ -64,11 +67,11 @@ returns c =
     elim c.match-open-2.branch [
       | in-Some-open-2+in_ok-finish-2+in_ok-push-2 w ↦
           let so_far = subst (λ o. LinesSoFar text made o c.loop-piece.number c.loop-piece.piece-iterator) w.in-Some-open-2.is
-              c.loop-piece.invariant in
+          c.loop-piece.invariant in
           ap (λ l. l.items) w.lines-is ∙ w.in_ok-push-2.ensures.items ∙ ap (λ l. made ++ l ∷ []) w.in_ok-finish-2.ensures
           ∙ all-open text made c.loop-piece.number c.loop-piece.piece-iterator c.next.new.self k w.in-Some-open-2.run' so_far
       | in_default w ↦
           let so_far = subst (λ o. LinesSoFar text made o c.loop-piece.number c.loop-piece.piece-iterator) w.in_default.is
-              c.loop-piece.invariant in
+          c.loop-piece.invariant in
           ap (λ l. l.items) w.lines-is ∙ all-closed text made c.loop-piece.number c.loop-piece.piece-iterator c.next.new.self k so_far
     ]

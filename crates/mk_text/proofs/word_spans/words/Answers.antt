@@ -33,7 +33,7 @@ loop-at-preserved c =
           ]
       | else-is_blank w ↦
           subst₂ P (sym (ap (λ s. s.items) w.spans-is)) (sym w.start-is)
-              (so_far-more text found start at so_far (test ∙ w.if-is_blank.false))
+          (so_far-more text found start at so_far (test ∙ w.if-is_blank.false))
     ]
 
 every : (c : goal.Joined-start-text) → AllWords c.args.text.now c.if-start-text.spans.items
@@ -47,7 +47,7 @@ every c =
     elim c.if-start-text.branch [
       | then-start-text+in_ok-push-2 w ↦
           subst (λ l. AllWords text l) (sym (ap (λ s. s.items) w.spans-is ∙ w.in_ok-push-2.ensures.items))
-              (all-word text found start so_far w.if-start-text.true)
+          (all-word text found start so_far w.if-start-text.true)
       | else-start-text w ↦ subst (λ l. AllWords text l) (sym (ap (λ s. s.items) w.spans-is))
           (all-found text found start so_far w.if-start-text.false)
     ]

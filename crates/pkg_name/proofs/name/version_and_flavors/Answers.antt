@@ -31,15 +31,15 @@ named : (stem : List ℕ) (words flavors : List (Bor (List ℕ))) (version : Bor
 named stem words flavors version are cut test =
     ap (λ all. name_of stem (now_all all)) cut
     ∙ ap (λ last. name_if (is_stem_or_flavor stem && is_version version.now && last) stem version.now (now_all flavors))
-        (list_all-map is_stem_or_flavor (λ (text : Bor (List ℕ)). text.now) flavors)
+    (list_all-map is_stem_or_flavor (λ (text : Bor (List ℕ)). text.now) flavors)
     ∙ ap (λ all. name_if all stem version.now (now_all flavors)) test
 
 pub returns-then-are_words : goal.returns-then-are_words
 returns-then-are_words c =
     named c.args.stem.now c.args.words.now c.in_ok-version.flavors.now c.in_ok-version.version.now
-        (is_version c.in_ok-version.version.now.now) c.in_ok-version.ensures.cases.0
+    (is_version c.in_ok-version.version.now.now) c.in_ok-version.ensures.cases.0
     (middle (is_stem_or_flavor c.args.stem.now) (is_version c.in_ok-version.version.now.now)
-        (list_all (λ text. is_stem_or_flavor text.now) c.in_ok-version.flavors.now)
+    (list_all (λ text. is_stem_or_flavor text.now) c.in_ok-version.flavors.now)
     (sym c.is_word_text.ensures ∙ c.if-is_word_text.true) (sym c.are_words.ensures ∙ c.if-are_words.true))
 
 pub returns-else-is_word_text : goal.returns-else-is_word_text
@@ -48,10 +48,10 @@ returns-else-is_word_text c =
     (elim c.else-is_word_text.branch [
       | else-is_word_text-via-then-is_word_text+else-are_words w ↦
           without_last (is_stem_or_flavor c.args.stem.now) (is_version c.in_ok-version.version.now.now)
-              (list_all (λ text. is_stem_or_flavor text.now) c.in_ok-version.flavors.now)
+          (list_all (λ text. is_stem_or_flavor text.now) c.in_ok-version.flavors.now)
           (sym w.are_words.ensures ∙ w.if-are_words.false)
       | else-is_word_text-via-else-is_word_text w ↦
           without_first (is_stem_or_flavor c.args.stem.now) (is_version c.in_ok-version.version.now.now)
-              (list_all (λ text. is_stem_or_flavor text.now) c.in_ok-version.flavors.now)
+          (list_all (λ text. is_stem_or_flavor text.now) c.in_ok-version.flavors.now)
           (sym c.is_word_text.ensures ∙ w.if-is_word_text.false)
     ])

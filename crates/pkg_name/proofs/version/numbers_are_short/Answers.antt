@@ -31,5 +31,5 @@ loop-byte-preserved c =
 pub returns : goal.returns
 returns c =
     sym (c.loop-byte.invariant.0 ∙ at_drop_all (λ rest. fits_after c.loop-byte.digits rest) c.args.text.now
-        c.loop-byte.byte-index c.loop-byte-test.false
+    c.loop-byte.byte-index c.loop-byte-test.false
     ∙ fits_after-end c.loop-byte.digits c.loop-byte.invariant.1)

@@ -12,7 +12,7 @@ returns-in-None-Some c =
     let behind = part_keys c.in-None-Some.field-0-1.now in
     sym (c.loop-behind.invariant.2
     ∙ tied_first (part_keys c.loop-behind.text.now) (part_keys c.loop-behind.other.now) (part_key c.first_part.result.0.now)
-        (part_key c.first_part-in-loop-behind.result.0.now)
+    (part_key c.first_part-in-loop-behind.result.0.now)
     [] behind mine theirs (sym c.compare_part-ordering.ensures ∙ tie)
     ∙ none_before c.in-None-Some.field-0-1.now)
 
@@ -24,6 +24,6 @@ returns-in-Some-None c =
     let behind = part_keys c.in-Some-None.field-0-0.now in
     sym (c.loop-behind.invariant.2
     ∙ tied_first (part_keys c.loop-behind.text.now) (part_keys c.loop-behind.other.now) (part_key c.first_part.result.0.now)
-        (part_key c.first_part-in-loop-behind.result.0.now)
+    (part_key c.first_part-in-loop-behind.result.0.now)
     behind [] mine theirs (sym c.compare_part-ordering.ensures ∙ tie)
     ∙ some_after c.in-Some-None.field-0-0.now)

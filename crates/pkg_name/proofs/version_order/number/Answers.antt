@@ -20,7 +20,7 @@ parsed text [] (Ok n) h same all few =
 parsed text [] (Err e) h same all few = refl
 parsed text (digit ∷ digits) r h same all few =
     ap result_ok (parse_gives decimal_numerals 64 (digit ∷ digits) r (rw same at h) all (omega arith)
-        (omega (arith, digits_value_short decimal_numerals (digit ∷ digits) 18 all few)))
+    (omega (arith, digits_value_short decimal_numerals (digit ∷ digits) 18 all few)))
 
 pub returns-in_default : goal.returns-in_default
 returns-in_default c =

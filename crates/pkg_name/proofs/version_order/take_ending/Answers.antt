@@ -14,28 +14,31 @@ use Rattle.pkg_name.proofs.version_order.take_ending.Goals.{else-last-letter-via
 pub returns-in_default-clause-before : goal.returns-in_default-clause-before
 returns-in_default-clause-before c =
     sym (ap (λ ended. ended.before) (ending_none c.args.letter c.final_digits.result c.args.text.now
-        c.split_at.result.0.now c.requires.no_digit
+    c.split_at.result.0.now c.requires.no_digit
     c.final_digits.ensures.digits c.split_at.ensures.front_len c.in_default.ensures.cases))
 
 pub returns-in_default-clause-number : goal.returns-in_default-clause-number
 returns-in_default-clause-number c =
     sym (ap (λ ended. ended.number) (ending_none c.args.letter c.final_digits.result c.args.text.now
-        c.split_at.result.0.now c.requires.no_digit
+    c.split_at.result.0.now c.requires.no_digit
     c.final_digits.ensures.digits c.split_at.ensures.front_len c.in_default.ensures.cases))
 
 pub number-requires-clause-few : goal.number-requires-clause-few
 number-requires-clause-few c =
     rw c.split_at.ensures.back
-        (short-digits _ c.final_digits.ensures.digits (short-drop c.final_digits.result c.args.text.now c.requires.short))
+    (short-digits _ c.final_digits.ensures.digits (short-drop c.final_digits.result c.args.text.now c.requires.short))
 
 -- the end that is taken off
-taken : (c : goal.After-number) → ended_by c.args.letter c.args.text.now ≡ record { before = c.in-Some.before.now; number =
-    number_written c.split_at.result.1.now }
+taken : (c : goal.After-number) → ended_by c.args.letter c.args.text.now ≡ record {
+  before = c.in-Some.before.now;
+  number =
+      number_written c.split_at.result.1.now;
+}
 taken c =
     let at = ending_at c.args.letter c.final_digits.result c.in-Some.last.now c.args.text.now c.split_at.result.0.now
-        c.split_at.result.1.now c.in-Some.before.now
+    c.split_at.result.1.now c.in-Some.before.now
     c.requires.no_digit c.final_digits.ensures.digits c.final_digits.ensures.before c.split_at.ensures.front c.split_at.ensures.back
-        c.split_at.ensures.front_len
+    c.split_at.ensures.front_len
     c.in-Some.ensures.cases.0 in
     let digits = ap (list_all is_ascii_digit) c.split_at.ensures.back ∙ c.final_digits.ensures.digits in
     ending_taken c.args.letter c.in-Some.last.now c.args.text.now c.split_at.result.1.now c.in-Some.before.now at c.if-last-letter.true
@@ -57,16 +60,16 @@ returns-then-not-is_empty-clause-short c =
 kept : (c : goal.Joined-else-last-letter) → ended_by c.args.letter c.args.text.now ≡ whole c.args.text.now
 kept c =
     let at = ending_at c.args.letter c.final_digits.result c.in-Some.last.now c.args.text.now c.split_at.result.0.now
-        c.split_at.result.1.now c.in-Some.before.now
+    c.split_at.result.1.now c.in-Some.before.now
     c.requires.no_digit c.final_digits.ensures.digits c.final_digits.ensures.before c.split_at.ensures.front c.split_at.ensures.back
-        c.split_at.ensures.front_len
+    c.split_at.ensures.front_len
     c.in-Some.ensures.cases.0 in
     let behind = c.split_at.result.1.now in
     ending_kept c.args.letter c.in-Some.last.now c.args.text.now behind c.in-Some.before.now at
     (elim c.else-last-letter.branch [
       | else-last-letter-via-then-last-letter+else-not-is_empty w ↦
           and_right (c.in-Some.last.now == c.args.letter) (is_number behind)
-              (number-none behind (sym w.is_empty.ensures ∙ w.if-not-is_empty.false))
+          (number-none behind (sym w.is_empty.ensures ∙ w.if-not-is_empty.false))
       | else-last-letter-via-else-last-letter w ↦
           and_left (c.in-Some.last.now == c.args.letter) (is_number behind) (ne_eqb c.in-Some.last.now c.args.letter w.if-last-letter.false)
     ])

@@ -29,4 +29,4 @@ returns-then-all_subpackages c = sym (by_all c.args.choices.now true (sym c.all_
 pub returns : goal.returns
 returns c =
     ap Some (c.put_in_order.ensures ∙ ap in_order c.in_ok-flavors.ensures)
-        ∙ sym (by_all c.args.choices.now false (sym c.all_subpackages.ensures ∙ c.if-all_subpackages.false))
+    ∙ sym (by_all c.args.choices.now false (sym c.all_subpackages.ensures ∙ c.if-all_subpackages.false))

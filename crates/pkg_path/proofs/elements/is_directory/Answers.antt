@@ -8,4 +8,4 @@ use Rattle.pkg_path.proofs.elements.is_directory.Goals as goal
 pub returns : goal.returns
 returns c =
     all_from_yields_List is_directory_part _ _ _ c.all.ensures.ran (YieldsList-from_str_split 47 c.args.text.now (lit< tt)
-        c.split.ensures.text c.split.ensures.has_more c.split.ensures.pattern) (λ x b q k. search (rules, tests))
+    c.split.ensures.text c.split.ensures.has_more c.split.ensures.pattern) (λ x b q k. search (rules, tests))

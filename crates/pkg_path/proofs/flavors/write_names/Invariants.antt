@@ -8,4 +8,4 @@ use Rattle.pkg_path.proofs.flavors.write_names.Given as goal
 abbrev pub invariant-loop-name : goal.invariant-loop-name
 invariant-loop-name g l =
     IsPlainFormatter l.initial.f → HasWritten g.W.Write.write_str_gives l.initial.f
-        (choices_text (map string_bytes (take l.name-index l.names))) l.f
+    (choices_text (map string_bytes (take l.name-index l.names))) l.f

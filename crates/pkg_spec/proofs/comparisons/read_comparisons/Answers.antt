@@ -64,11 +64,11 @@ more texts i d read one now inside before here is =
 pub returns-in_default : goal.returns-in_default
 returns-in_default c =
     sym (ap (λ b. cond b (Some (map signed (now_all c.args.texts.now))) None)
-        (one_fails c.args.texts.now c.loop-text.text-index _ c.loop-text-test.true
-        (nothing_read _ _ c.in_ok-comparison.field-0 c.in_default.is c.in_ok-comparison.ensures)))
+    (one_fails c.args.texts.now c.loop-text.text-index _ c.loop-text-test.true
+    (nothing_read _ _ c.in_ok-comparison.field-0 c.in_default.is c.in_ok-comparison.ensures)))
 
 pub loop-text-preserved : goal.loop-text-preserved
 loop-text-preserved c =
     more c.args.texts.now c.loop-text.text-index _ c.loop-text.comparisons.items c.in-Some.comparison c.push.new.self.items
-        c.loop-text-test.true c.loop-text.invariant
+    c.loop-text-test.true c.loop-text.invariant
     (something_read _ _ c.in_ok-comparison.field-0 c.in-Some.comparison c.in-Some.is c.in_ok-comparison.ensures) c.in_ok-push.ensures.items

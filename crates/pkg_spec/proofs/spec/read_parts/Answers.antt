@@ -16,10 +16,10 @@ use Rattle.pkg_spec.proofs.spec.read_parts.Goals as goal
 
 readings_more : (parts : List (Bor (List ℕ))) (i : ℕ) (d : Bor (List ℕ)) → i < length parts
     → map alternative_of (now_all (take (i + 1) parts)) ≡ map alternative_of (now_all (take i parts)) ++ alternative_of
-        (get_or parts i d).now ∷ []
+    (get_or parts i d).now ∷ []
 readings_more parts i d inside =
     ap (λ some. map alternative_of (now_all some)) (take_more parts i d inside)
-        ∙ ap (map alternative_of) (map-append (λ (part : Bor (List ℕ)). part.now) (take i parts) (get_or parts i d ∷ []))
+    ∙ ap (map alternative_of) (map-append (λ (part : Bor (List ℕ)). part.now) (take i parts) (get_or parts i d ∷ []))
     ∙ map-append alternative_of (now_all (take i parts)) ((get_or parts i d).now ∷ [])
 
 or_none : (a b : Bool) → (a || b) ≡ (a || (b || false))
@@ -31,7 +31,7 @@ refused_more : (fault : SpecFault) (readings : List (Result AlternativeValue Spe
     → now ≡ (before || is_refused fault reading) → now ≡ list_any (is_refused fault) (readings ++ reading ∷ [])
 refused_more fault readings reading before now e is =
     is ∙ ap (λ b. b || is_refused fault reading) e ∙ or_none (list_any (is_refused fault) readings) (is_refused fault reading)
-        ∙ sym (list_any-append (is_refused fault) readings (reading ∷ []))
+    ∙ sym (list_any-append (is_refused fault) readings (reading ∷ []))
 
 one_kept : (reading : Result AlternativeValue SpecFault) → option_to_list (result_ok reading) ≡ filter_map result_ok (reading ∷ [])
 one_kept (Ok alternative) = refl
@@ -42,15 +42,15 @@ kept_more : (readings : List (Result AlternativeValue SpecFault)) (reading : Res
     → now ≡ before ++ option_to_list (result_ok reading) → now ≡ filter_map result_ok (readings ++ reading ∷ [])
 kept_more readings reading before now e is =
     is ∙ ap (λ xs. xs ++ option_to_list (result_ok reading)) e ∙ ap (λ xs. filter_map result_ok readings ++ xs) (one_kept reading)
-        ∙ sym (filter_map-append result_ok readings (reading ∷ []))
+    ∙ sym (filter_map-append result_ok readings (reading ∷ []))
 
 refused_part : (fault : SpecFault) (parts : List (Bor (List ℕ))) (i : ℕ) (d : Bor (List ℕ)) (before now : Bool) → i < length parts
     → before ≡ list_any (is_refused fault) (map alternative_of (now_all (take i parts)))
     → now ≡ (before || is_refused fault (alternative_of (get_or parts i d).now)) → now ≡ list_any (is_refused fault)
-        (map alternative_of (now_all (take (i + 1) parts)))
+    (map alternative_of (now_all (take (i + 1) parts)))
 refused_part fault parts i d before now inside e is =
     refused_more fault (map alternative_of (now_all (take i parts))) (alternative_of (get_or parts i d).now) before now e is
-        ∙ ap (list_any (is_refused fault)) (sym (readings_more parts i d inside))
+    ∙ ap (list_any (is_refused fault)) (sym (readings_more parts i d inside))
 
 kept_part : (parts : List (Bor (List ℕ))) (i : ℕ) (d : Bor (List ℕ)) (before now : List AlternativeValue) → i < length parts
     → before ≡ filter_map result_ok (map alternative_of (now_all (take i parts)))
@@ -58,7 +58,7 @@ kept_part : (parts : List (Bor (List ℕ))) (i : ℕ) (d : Bor (List ℕ)) (befo
     → now ≡ filter_map result_ok (map alternative_of (now_all (take (i + 1) parts)))
 kept_part parts i d before now inside e is =
     kept_more (map alternative_of (now_all (take i parts))) (alternative_of (get_or parts i d).now) before now e is
-        ∙ ap (filter_map result_ok) (sym (readings_more parts i d inside))
+    ∙ ap (filter_map result_ok) (sym (readings_more parts i d inside))
 
 pub loop-part-preserved : goal.loop-part-preserved
 loop-part-preserved c =

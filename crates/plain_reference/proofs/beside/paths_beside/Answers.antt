@@ -20,7 +20,7 @@ loop-path-preserved c =
           ∙ ap (λ outcome. map string_bytes c.loop-path.beside.items ++ targets_in outcome) row
           ∙ ap (λ before. before ++ targets (string_bytes c.path-item.result)) c.loop-path.invariant.beside
           ∙ sym (flat_map-more targets string_bytes c.args.listed.now c.loop-path.path-index c.path-item.result
-              c.loop-path-test.true c.path-item.is);
+          c.loop-path-test.true c.path-item.is);
     }
 
 pub returns : goal.returns
@@ -30,5 +30,5 @@ returns c =
     let targets = λ (path : List ℕ). targets_in (known path) in
     ap (λ beside. in_order (listed ++ beside))
     (c.loop-path.invariant.beside ∙ ap (λ texts. flat_map targets (map string_bytes texts))
-        (take_all c.loop-path.path-index c.args.listed.now c.loop-path-test.false)
+    (take_all c.loop-path.path-index c.args.listed.now c.loop-path-test.false)
     ∙ targets-among known listed)

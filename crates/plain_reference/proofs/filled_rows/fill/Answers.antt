@@ -20,17 +20,17 @@ loop-path-preserved g c =
     let item = c.path-item.result in
     let one = subst (λ text. Fills world (text ∷ []) (entries_in c.loop-path.rows) (entries_in c.fill_one.new.rows)) c.deref.ensures
     (subst (λ files. Fills (files, settings) (c.deref.result.now ∷ []) (entries_in c.loop-path.rows) (entries_in c.fill_one.new.rows))
-        c.loop-path.invariant.keeps.files c.in_ok-fill_one.ensures.fills) in
+    c.loop-path.invariant.keeps.files c.in_ok-fill_one.ensures.fills) in
     let before = map string_bytes (take c.loop-path.path-index c.args.paths.now) in
     let here = λ (files : FileMap) (text : List ℕ). effort_over (files, settings) (lacking (entries_in c.loop-path.rows) (text ∷ [])) in
     record {
       effort = c.and-effort.ensures
           ∙ ap₂ both c.loop-path.invariant.effort (c.in_ok-fill_one.ensures.effort
-              ∙ ap₂ here c.loop-path.invariant.keeps.files c.deref.ensures)
+          ∙ ap₂ here c.loop-path.invariant.keeps.files c.deref.ensures)
           ∙ Effort-on world before (string_bytes item ∷ []) (entries_in c.args.rows.now) (entries_in c.loop-path.rows)
-              c.loop-path.invariant.fills
+          c.loop-path.invariant.fills
           ∙ ap (λ paths. effort_over world (lacking (entries_in c.args.rows.now) paths))
-              (sym (map-more string_bytes c.args.paths.now c.loop-path.path-index item c.loop-path-test.true c.path-item.is));
+          (sym (map-more string_bytes c.args.paths.now c.loop-path.path-index item c.loop-path-test.true c.path-item.is));
       right = subst (λ files. AreOutcomes (files, settings) (entries_in c.fill_one.new.rows)) c.loop-path.invariant.keeps.files
           c.in_ok-fill_one.ensures.right;
       stay = Stay-on (entries_in c.args.rows.now) (entries_in c.loop-path.rows) (entries_in c.fill_one.new.rows) c.loop-path.invariant.stay
@@ -38,7 +38,7 @@ loop-path-preserved g c =
       fills = subst (λ paths. Fills world paths (entries_in c.args.rows.now) (entries_in c.fill_one.new.rows))
           (sym (map-more string_bytes c.args.paths.now c.loop-path.path-index item c.loop-path-test.true c.path-item.is))
           (Fills-on world (map string_bytes (take c.loop-path.path-index c.args.paths.now)) (string_bytes item ∷ [])
-              (entries_in c.args.rows.now) (entries_in c.loop-path.rows) (entries_in c.fill_one.new.rows)
+          (entries_in c.args.rows.now) (entries_in c.loop-path.rows) (entries_in c.fill_one.new.rows)
           c.loop-path.invariant.fills one);
       keeps = KeepsFiles-on None (view c.args.files.now) (view c.loop-path.files) (view c.fill_one.new.files) c.loop-path.invariant.keeps
           c.in_ok-fill_one.ensures.keeps;

@@ -33,14 +33,14 @@ returns-clause-known g c =
     let beside = map string_bytes c.in_ok-beside.beside.items in
     let first = c.in_ok-directories.ensures.fills in
     let listed_are : map string_bytes c.deref.result.now ≡ listed_paths world = ap (map string_bytes) c.deref.ensures.value
-        ∙ c.in_ok-directories.ensures.listed in
+    ∙ c.in_ok-directories.ensures.listed in
     let needed_are : needed_with (listed_paths world) beside ≡ needed_paths world =
     subst (λ listed. needed_with listed beside ≡ needed_among (known_in middle) listed) listed_are c.in_ok-beside.ensures
     ∙ c.known_rows_are_enough.ensures.needed world middle (say-filled world (listed_paths world) start middle first) in
     let second : Fills world beside middle end =
     subst (λ paths. Fills world paths middle end) (ap (map string_bytes) c.deref-2.ensures.value)
     (subst (λ files. Fills (files, settings) (map string_bytes c.deref-2.result.now) middle end) c.in_ok-directories.ensures.keeps.files
-        c.in_ok-more.ensures.fills) in
+    c.in_ok-more.ensures.fills) in
     record {
       paths = record {
         directories = c.in_ok-directories.ensures.directories;
@@ -60,7 +60,7 @@ returns-clause-effort g c =
     let beside = map string_bytes c.in_ok-beside.beside.items in
     let first = c.in_ok-directories.ensures.fills in
     let listed_are : map string_bytes c.deref.result.now ≡ listed_paths world = ap (map string_bytes) c.deref.ensures.value
-        ∙ c.in_ok-directories.ensures.listed in
+    ∙ c.in_ok-directories.ensures.listed in
     let needed_are : needed_with (listed_paths world) beside ≡ needed_paths world =
     subst (λ listed. needed_with listed beside ≡ needed_among (known_in middle) listed) listed_are c.in_ok-beside.ensures
     ∙ c.known_rows_are_enough.ensures.needed world middle (say-filled world (listed_paths world) start middle first) in
@@ -71,4 +71,4 @@ returns-clause-effort g c =
     ∙ Effort-on world (listed_paths world) beside start middle first
     ∙ ap (effort_over world)
     (lacking-all start (λ path. ap (option_map (λ (said : Said). said.outcome)) (c.new-rows.ensures.none path))
-        (listed_paths world ++ beside) ∙ needed_are)
+    (listed_paths world ++ beside) ∙ needed_are)

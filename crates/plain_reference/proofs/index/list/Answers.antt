@@ -32,13 +32,13 @@ returns-clause-listed g c =
     let before = entries_in c.args.rows.now in
     let found = directories (files_in world) in
     let directories_are : map string_bytes c.deref.result.now ≡ found = ap (map string_bytes) c.deref.ensures.value
-        ∙ c.in_ok-directories.ensures.ok in
+    ∙ c.in_ok-directories.ensures.ok in
     let first : Fills world found before entries =
     subst (λ paths. Fills world paths before entries) directories_are
     (subst (λ files. Fills (files, settings) (map string_bytes c.deref.result.now) before entries) c.in_ok-directories.ensures.keeps.files
-        c.in_ok-first.ensures.fills) in
+    c.in_ok-first.ensures.fills) in
     c.in_ok-paths.ensures ∙ ap (listed_from (known_in entries)) (ap (map string_bytes) c.deref-2.ensures.value
-        ∙ c.in_ok-directories.ensures.ok)
+    ∙ c.in_ok-directories.ensures.ok)
     ∙ c.known_rows_are_enough.ensures.listed world entries (say-filled world found before entries first)
 
 pub returns-clause-fills : goal.returns-clause-fills
@@ -51,15 +51,15 @@ returns-clause-fills g c =
     let middle = entries_in c.fill.new.rows in
     let end = entries_in c.fill-2.new.rows in
     let directories_are : map string_bytes c.deref.result.now ≡ found = ap (map string_bytes) c.deref.ensures.value
-        ∙ c.in_ok-directories.ensures.ok in
+    ∙ c.in_ok-directories.ensures.ok in
     let paths_are : map string_bytes c.deref-3.result.now ≡ listed_paths world = ap (map string_bytes) c.deref-3.ensures.value
-        ∙ returns-clause-listed g c in
+    ∙ returns-clause-listed g c in
     let same : (view c.fill.new.files).files ≡ (view c.args.files.now).files = c.in_ok-first.ensures.keeps.files
-        ∙ c.in_ok-directories.ensures.keeps.files in
+    ∙ c.in_ok-directories.ensures.keeps.files in
     let first : Fills world found start middle =
     subst (λ paths. Fills world paths start middle) directories_are
     (subst (λ files. Fills (files, settings) (map string_bytes c.deref.result.now) start middle) c.in_ok-directories.ensures.keeps.files
-        c.in_ok-first.ensures.fills) in
+    c.in_ok-first.ensures.fills) in
     let second : Fills world (listed_paths world) middle end =
     subst (λ paths. Fills world paths middle end) paths_are
     (subst (λ files. Fills (files, settings) (map string_bytes c.deref-3.result.now) middle end) same c.in_ok-more.ensures.fills) in
@@ -76,17 +76,17 @@ returns-clause-effort g c =
     let start = entries_in c.args.rows.now in
     let middle = entries_in c.fill.new.rows in
     let work = λ (files : FileMap) (rows : List ℕ → Option PathOutcome) (paths : List (List ℕ)). effort_over
-        (files, settings) (lacking rows paths) in
+    (files, settings) (lacking rows paths) in
     let directories_are : map string_bytes c.deref.result.now ≡ found = ap (map string_bytes) c.deref.ensures.value
-        ∙ c.in_ok-directories.ensures.ok in
+    ∙ c.in_ok-directories.ensures.ok in
     let paths_are : map string_bytes c.deref-3.result.now ≡ listed_paths world = ap (map string_bytes) c.deref-3.ensures.value
-        ∙ returns-clause-listed g c in
+    ∙ returns-clause-listed g c in
     let same : (view c.fill.new.files).files ≡ (view c.args.files.now).files = c.in_ok-first.ensures.keeps.files
-        ∙ c.in_ok-directories.ensures.keeps.files in
+    ∙ c.in_ok-directories.ensures.keeps.files in
     let first : Fills world found start middle =
     subst (λ paths. Fills world paths start middle) directories_are
     (subst (λ files. Fills (files, settings) (map string_bytes c.deref.result.now) start middle) c.in_ok-directories.ensures.keeps.files
-        c.in_ok-first.ensures.fills) in
+    c.in_ok-first.ensures.fills) in
     c.and.ensures
     ∙ ap₂ both
     (c.in_ok-first.ensures.effort ∙ ap₂ (λ files paths. work files start paths) c.in_ok-directories.ensures.keeps.files directories_are)

@@ -30,4 +30,4 @@ returns-in-Some-clause-asks g c =
     ∙ ap (questions_in world path.directory) c.flavors.ensures
     ∙ sym (questions-named world c.args.path.now path (sym c.eq.ensures ∙ c.if-eq.false) (sym c.in_ok-path.ensures ∙ c.in-Some.is)) in
     subst (λ questions. OnOk c.finding_in-in-Some.result (view c.finding_in-in-Some.new.files ≡ noted (view c.args.files.now) questions)) is
-        c.finding_in-in-Some.ensures.asks
+    c.finding_in-in-Some.ensures.asks

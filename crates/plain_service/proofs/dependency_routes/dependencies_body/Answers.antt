@@ -14,7 +14,7 @@ returns-in_ok-edges-in-Direct c = λ world is at.
     let asked = c.args.question.now in
     IfOk-weaker c.first_body.result _ _ (λ text are. are
     ∙ ap (λ own. compact_text (dependencies_at own asked.path asked.kinds Direct)) (c.deref.ensures.value
-        ∙ c.in_ok-edges-in-Direct.ensures world is)
+    ∙ c.in_ok-edges-in-Direct.ensures world is)
     ∙ ap (λ first. compact_text (dependencies_body first)) (first-own asked.kinds asked.path c.args.path.now (edges world) at)
     ∙ ap (λ depth. compact_text (dependencies_at (edges world) asked.path asked.kinds depth)) (sym c.in-Direct.is))
     c.first_body.ensures

@@ -20,4 +20,4 @@ returns c =
     let kind = c.as_str.ensures ∙ ap word_of_kind c.kind.ensures in
     let status = c.as_str-2.ensures ∙ ap status_word c.status.ensures in
     subst (λ value. OnOk c.write_object.result (AddsValue c.args.out.now c.write_object.new.out value))
-        (same c.args.root.now c.item.ensures kind status c.subpackage.ensures) c.write_object.ensures
+    (same c.args.root.now c.item.ensures kind status c.subpackage.ensures) c.write_object.ensures

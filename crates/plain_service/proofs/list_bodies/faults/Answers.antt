@@ -17,13 +17,13 @@ loop-root-preserved c =
     let before = filter_map root_fault_body (take at roots) in
     let more = ap (λ root. before ++ option_to_list (root_fault_body root)) c.root-item.is
     ∙ filter_map-more root_fault_body roots at root before (before ++ option_to_list (root_fault_body (get_or roots at root)))
-        c.loop-root-test.true refl refl in
+    c.loop-root-test.true refl refl in
     subst (HasItems c.add_fault.new.out (codes "faults")) more (more_items (option_to_list (root_fault_body root)) c.loop-root.invariant
-        c.in_ok-add_fault.ensures)
+    c.in_ok-add_fault.ensures)
 
 pub returns : goal.returns
 returns c =
     let roots = c.args.roots.now in
     c.end_list.ensures (codes "faults") (filter_map root_fault_body roots)
     (subst (λ part. HasItems c.loop-root.out (codes "faults") (filter_map root_fault_body part))
-        (take_all c.loop-root.root-index roots c.loop-root-test.false) c.loop-root.invariant)
+    (take_all c.loop-root.root-index roots c.loop-root-test.false) c.loop-root.invariant)

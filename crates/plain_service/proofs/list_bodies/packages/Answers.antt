@@ -7,4 +7,4 @@ pub returns : goal.returns
 returns c =
     let packages = c.args.packages.now in
     c.end_list.ensures (codes "packages") (map listed_body packages)
-        (all_items listed_body packages c.loop-one.one-index c.loop-one-test.false c.loop-one.invariant)
+    (all_items listed_body packages c.loop-one.one-index c.loop-one-test.false c.loop-one.invariant)

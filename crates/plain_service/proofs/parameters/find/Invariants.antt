@@ -11,4 +11,4 @@ invariant-loop-pair l =
     (goal.iterator-loop-pair).can_next l.pair-iterator ×
     (goal.iterator-loop-pair).is_finite l.pair-iterator ×
     (values_under l.name l.query ≡ option_to_list (option_map cow_str_bytes l.found) ++ filter_map (value_under l.name)
-        (pairs_left l.pair-iterator))
+    (pairs_left l.pair-iterator))

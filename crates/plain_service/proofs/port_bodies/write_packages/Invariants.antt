@@ -9,4 +9,4 @@ use Rattle.plain_service.proofs.port_bodies.write_packages.Given as goal
 abbrev pub invariant-loop-one : goal.invariant-loop-one
 invariant-loop-one l =
     AddsTokens l.fn.out l.out (key (codes "packages") ∷ begin_array ∷ flat_map value_tokens
-        (map package_body (take l.one-index l.packages)))
+    (map package_body (take l.one-index l.packages)))

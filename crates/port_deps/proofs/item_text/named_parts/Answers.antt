@@ -18,4 +18,4 @@ returns-in-None c =
     let text = c.args.text.now in
     let some : (length text == 0) ≡ false = sym c.is_empty.ensures ∙ c.if-is_empty.false in
     sym (ap named_parts (all_kept text some c.requires
-        ∙ without_colon text (split_once_first 58 text None c.in-None.ensures.cases (lit< tt))))
+    ∙ without_colon text (split_once_first 58 text None c.in-None.ensures.cases (lit< tt))))

@@ -12,7 +12,7 @@ returns-in-Some c =
     let targets = c.in-Some.targets.now in
     let cut = split_once_first 58 others (Some (c.in-Some._path, c.in-Some.targets)) c.in-Some.ensures.cases (lit< tt) in
     let there : position_or_len is_colon targets < length targets = some_colon targets
-        ((contains_char 58 targets c.contains.result c.contains.ensures.cases (lit< tt)).0 c.if-contains.true) in
+    ((contains_char 58 targets c.contains.result c.contains.ensures.cases (lit< tt)).0 c.if-contains.true) in
     four_parts c.args.first.now c.in-Some._path.now targets there
     ∙ sym (ap (λ parts. named_parts (c.args.first.now ∷ parts)) (at_colon others c.in-Some._path.now targets cut.0 cut.1 cut.2))
 
@@ -22,8 +22,8 @@ returns-in-Some-2 c =
     let targets = c.in-Some.targets.now in
     let cut = split_once_first 58 others (Some (c.in-Some._path, c.in-Some.targets)) c.in-Some.ensures.cases (lit< tt) in
     let none : position_or_len is_colon targets ≡ length targets =
-        no_colon targets (λ k inside is. (contains_char 58 targets c.contains.result c.contains.ensures.cases (lit< tt)).1 k inside is)
-        c.if-contains.false in
+    no_colon targets (λ k inside is. (contains_char 58 targets c.contains.result c.contains.ensures.cases (lit< tt)).1 k inside is)
+    c.if-contains.false in
     sym (ap (λ parts. named_parts (c.args.first.now ∷ parts)) (at_colon others c.in-Some._path.now targets cut.0 cut.1 cut.2)
     ∙ ap (λ parts. named_parts (c.args.first.now ∷ c.in-Some._path.now ∷ parts)) (without_colon targets none))
 
@@ -32,4 +32,4 @@ returns-in-None c =
     let others = c.args.others.now in
     ap Some c.of_two.ensures
     ∙ sym (ap (λ parts. named_parts (c.args.first.now ∷ parts))
-        (without_colon others (split_once_first 58 others None c.in-None.ensures.cases (lit< tt))))
+    (without_colon others (split_once_first 58 others None c.in-None.ensures.cases (lit< tt))))

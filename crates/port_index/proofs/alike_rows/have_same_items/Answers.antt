@@ -22,7 +22,7 @@ loop-place-preserved c =
     let same = (bytes_eq-Decides c.item.result.now c.item-in-loop-place.result.now).0 (same_by _ c.if-ne.ensures) in
     let texts : there.item ≡ here.item = sym c.item-in-loop-place.ensures ∙ sym same ∙ c.item.ensures in
     ap dependency_items (take_more new place there in_new ∙ ap (λ d. take place new ++ d ∷ []) (sym c.index-new-place.is))
-        ∙ map-append (λ (d : DependValue). d.item) (take place new) (there ∷ [])
+    ∙ map-append (λ (d : DependValue). d.item) (take place new) (there ∷ [])
     ∙ ap (λ item. dependency_items (take place new) ++ item ∷ []) texts ∙ ap (λ items. items ++ here.item ∷ []) c.loop-place.invariant
     ∙ sym (ap dependency_items (take_more old place here in_old ∙ ap (λ d. take place old ++ d ∷ []) (sym c.index-old-place.is))
-        ∙ map-append (λ (d : DependValue). d.item) (take place old) (here ∷ []))
+    ∙ map-append (λ (d : DependValue). d.item) (take place old) (here ∷ []))

@@ -10,7 +10,7 @@ use Rattle.port_index.proofs.alike_rows.name_alike.Goals as goal
 pub returns-in-Port-new : goal.returns-in-Port-new
 returns-in-Port-new c = λ same path.
     let items = sym (ap dependency_items c.depends-in-Port-new.ensures) ∙ c.have_same_items.ensures same
-        ∙ ap dependency_items c.depends.ensures in
+    ∙ ap dependency_items c.depends.ensures in
     subst (λ (old : Row). NameAlike path (row_seen old) (row_seen c.args.new.now)) (sym c.in-Port.is)
     (subst (λ (new : Row). NameAlike path (row_seen (Port c.in-Port.port)) (row_seen new)) (sym c.in-Port-new.is)
     (record { words = refl; items = targets-by_items c.in-Port-new.other.depends c.in-Port.port.depends items }))

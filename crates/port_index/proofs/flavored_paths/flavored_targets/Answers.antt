@@ -15,10 +15,10 @@ loop-depend-preserved c =
     let place = c.loop-depend.depend-index in
     let before = map string_bytes c.loop-depend.found.items in
     general.filter_map-more flavored_target depends place c.depend-item.result before
-        (map string_bytes c.add_found.new.paths.items) c.loop-depend-test.true
+    (map string_bytes c.add_found.new.paths.items) c.loop-depend-test.true
     c.loop-depend.invariant
     (c.in_ok-add_found.ensures ∙ ap (λ o. before ++ option_to_list o) (c.in_ok-flavored_target.ensures
-        ∙ ap flavored_target c.depend-item.is))
+    ∙ ap flavored_target c.depend-item.is))
 
 pub returns : goal.returns
 returns c =

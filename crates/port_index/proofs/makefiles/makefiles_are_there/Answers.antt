@@ -37,4 +37,4 @@ loop-name-preserved g c =
 pub returns-clause-there : goal.returns-clause-there
 returns-clause-there g c = λ are name changed.
     c.loop-name.invariant.3 name (sym (changed-named c.args.names.now name) ∙ changed)
-        (ap (λ names. is_one_of name (map string_bytes names)) c.in-None.ensures.steps.0)
+    (ap (λ names. is_one_of name (map string_bytes names)) c.in-None.ensures.steps.0)

@@ -10,4 +10,4 @@ returns-in-Some c =
     c.has_name.ensures ∙ ap (λ name. list_any (λ one. bytes_eq (string_bytes one) name) c.args.names.now) c.as_str.ensures.value
     ∙ ap (λ (test : _ → Bool). list_any test c.args.names.now)
     (λ i one. sym (alone-contains c.args.others.now c.in-Some.only.now (sym c.len.ensures.len ∙ c.if-len-eq1.true)
-        c.in-Some.ensures.first (string_bytes one)) i)
+    c.in-Some.ensures.first (string_bytes one)) i)

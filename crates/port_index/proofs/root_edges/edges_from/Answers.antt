@@ -13,7 +13,7 @@ returns-then-not-is_found_in c = λ ordered.
     c.new.ensures.items
     ∙ sym (edges-one outcomes path (map string_bytes c.args.paths.now) ordered
     ∙ ap (λ (b : Bool). if b then map (edge_at outcomes) (items_at outcomes path) else []) (sym (c.is_found_in.ensures.all ordered)
-        ∙ c.if-not-is_found_in.true))
+    ∙ c.if-not-is_found_in.true))
 
 pub returns : goal.returns
 returns c = λ ordered.
@@ -21,9 +21,9 @@ returns c = λ ordered.
     let path = c.args.path.now in
     let items : map item_seen c.add_items.new.found.items ≡ items_at outcomes path =
     c.in_ok-add_items.ensures ∙ ap₂ (λ before row. map item_seen before ++ items_in path (known_row row))
-        c.new-items.ensures.items c.get.ensures in
+    c.new-items.ensures.items c.get.ensures in
     IfOk-weaker c.edges_of_all.result _ _ (λ found are. are ∙ ap (map (edge_at outcomes)) items
     ∙ sym (edges-one outcomes path (map string_bytes c.args.paths.now) ordered
     ∙ ap (λ (b : Bool). if b then map (edge_at outcomes) (items_at outcomes path) else []) (sym (c.is_found_in.ensures.all ordered)
-        ∙ c.if-not-is_found_in.false)))
+    ∙ c.if-not-is_found_in.false)))
     c.edges_of_all.ensures

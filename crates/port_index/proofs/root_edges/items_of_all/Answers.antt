@@ -10,9 +10,9 @@ loop-path-preserved c =
     let rows = c.args.rows.now in
     let finder = c.loop-path.invariant.finder in
     let here = ap₂ (λ path row. items_in path (known_row row)) c.deref.ensures (c.get.ensures.row rows finder
-        ∙ ap (entries_in rows) c.deref-in-loop-path.ensures) in record {
+    ∙ ap (entries_in rows) c.deref-in-loop-path.ensures) in record {
       finder = c.get.ensures.finder rows finder;
       found = c.in_ok-add_items.ensures ∙ ap₂ (λ before more. before ++ more) c.loop-path.invariant.found here
           ∙ sym (flat_map-more (items_at (known_in (entries_in rows))) string_bytes c.args.paths.now c.loop-path.path-index
-              c.path-item.result c.loop-path-test.true c.path-item.is);
+          c.path-item.result c.loop-path-test.true c.path-item.is);
     }

@@ -20,16 +20,16 @@ loop-path-preserved-in-Continue-1 g c = (
       let entry : String Global × KnownRow = (c.in-Some.path.now, c.in-Some.known.now) in
       let all = chosen test paths c.args.rows.now.noted.rows.entries in
       let tested : test c.in-Port.port ≡ true =
-          sym (tests c.in-Port.port c.passes.result (record { shown = _; shows = refl; says = record { met = c.passes.ensures } }))
-          ∙ c.if-passes.true in
+      sym (tests c.in-Port.port c.passes.result (record { shown = _; shows = refl; says = record { met = c.passes.ensures } }))
+      ∙ c.if-passes.true in
       let row : row_seen c.in-Some.known.now.row ≡ seen.Port c.in-Port.port = ap row_seen c.in-Port.is in
       let before : c.loop-path.found.items ++ chosen test paths (entry ∷ c.next.new.self) ≡ all =
       ap (λ (left : List (String Global × KnownRow)). c.loop-path.found.items ++ chosen test paths left) (sym c.in-Some.ensures.steps)
-          ∙ c.loop-path.invariant.3 test tests ordered in
+      ∙ c.loop-path.invariant.3 test tests ordered in
       let added = c.in_ok-add_port.ensures.added paths c.loop-path.invariant.2 ordered in
       ap (λ (items : List RootValue). items ++ chosen test paths c.next.new.self) (added
       ∙ ap (λ (at : List ℕ). c.loop-path.found.items ++ (if is_one_of at paths then record { path = at; state = Ok c.in-Port.port } ∷ []
-          else [])) c.deref.ensures)
+      else [])) c.deref.ensures)
       ∙ port-on test paths c.loop-path.found.items entry c.next.new.self all c.in-Port.port row tested before,
 )
 
@@ -43,12 +43,12 @@ loop-path-preserved-else-passes g c = (
       let entry : String Global × KnownRow = (c.in-Some.path.now, c.in-Some.known.now) in
       let all = chosen test paths c.args.rows.now.noted.rows.entries in
       let tested : test c.in-Port.port ≡ false =
-          sym (tests c.in-Port.port c.passes.result (record { shown = _; shows = refl; says = record { met = c.passes.ensures } }))
-          ∙ c.if-passes.false in
+      sym (tests c.in-Port.port c.passes.result (record { shown = _; shows = refl; says = record { met = c.passes.ensures } }))
+      ∙ c.if-passes.false in
       let row : row_seen c.in-Some.known.now.row ≡ seen.Port c.in-Port.port = ap row_seen c.in-Port.is in
       let before : c.loop-path.found.items ++ chosen test paths (entry ∷ c.next.new.self) ≡ all =
       ap (λ (left : List (String Global × KnownRow)). c.loop-path.found.items ++ chosen test paths left) (sym c.in-Some.ensures.steps)
-          ∙ c.loop-path.invariant.3 test tests ordered in
+      ∙ c.loop-path.invariant.3 test tests ordered in
       other-on test paths c.loop-path.found.items entry c.next.new.self all c.in-Port.port row tested before,
 )
 

@@ -9,7 +9,7 @@ loop-path-preserved c =
     let entries = entries_in c.args.rows.now in
     let finder = c.loop-path.invariant.finder in
     let here = ap₂ (λ path row. root_with path (root_state (known_row row))) c.deref.ensures (c.get.ensures.row c.args.rows.now finder
-        ∙ ap entries c.deref-in-loop-path.ensures) in record {
+    ∙ ap entries c.deref-in-loop-path.ensures) in record {
       finder = c.get.ensures.finder c.args.rows.now finder;
       found = filter-next (root_at (known_in entries)) string_bytes c.args.paths.now c.loop-path.path-index c.path-item.result
           (string_bytes c.path-item.result) [] c.loop-path.found.items

@@ -12,5 +12,5 @@ returns-in_err-_before c =
 pub returns : goal.returns
 returns c =
     let parts = split_once_first 47 c.args.text.now (Some (c.in_ok-_before._before, c.in_ok-_before.after))
-        c.in_ok-_before.ensures.cases (lit< tt) in
+    c.in_ok-_before.ensures.cases (lit< tt) in
     after_slash-some c.args.text.now c.in_ok-_before.after.now parts.0 parts.2

@@ -20,7 +20,7 @@ returns-in-Ok-clause-all c = λ ordered.
     (always_returns_same _ _ _ (λ a r f' k. (k.met.1 ∙ ap (by_bytes (string_bytes a.0.now)) whole, λ j. record { 0 = k.met.0 j }))) in
     c.eq.ensures ∙ ap (λ text. bytes_eq text path) c.as_str.ensures.value
     ∙ one_of-found c.args.paths.now path c.in-Ok.place c.index-paths-place.result c.in-Ok.ensures.bound c.index-paths-place.is
-        (found c.index-paths-place.result)
+    (found c.index-paths-place.result)
 
 pub returns-in-Err-clause-all : goal.returns-in-Err-clause-all
 returns-in-Err-clause-all c = λ ordered.

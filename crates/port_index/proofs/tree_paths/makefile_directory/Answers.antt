@@ -8,4 +8,4 @@ pub returns-in_err-strip_suffix : goal.returns-in_err-strip_suffix
 returns-in_err-strip_suffix c =
     ap option_copied c.from_residual.ensures
     ∙ ap (λ place. option_map directory_below (option_and_then after_slash place)) (without_suffix-none (codes "/Makefile") c.args.name.now
-        c.in_err-strip_suffix.ensures.cases)
+    c.in_err-strip_suffix.ensures.cases)

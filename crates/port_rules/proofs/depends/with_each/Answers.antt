@@ -10,20 +10,20 @@ returns-in_err-found c =
     told _ _ _ _ _ (p.1 ∙ ap Err p.2)
     (rw c.loop-subpackage.invariant
     (walk-stops (add_depends c.args.env.now) c.args.subpackages.now c.loop-subpackage.subpackage-index c.loop-subpackage.found.items
-        c.subpackage-item.result c.deref.result.now c.loop-subpackage.budget
+    c.subpackage-item.result c.deref.result.now c.loop-subpackage.budget
     c.in_err-found.field-0.0 c.with_depends.new.budget c.loop-subpackage-test.true c.subpackage-item.is c.deref.ensures
-        c.in_err-found.ensures))
+    c.in_err-found.ensures))
 
 pub loop-subpackage-preserved : goal.loop-subpackage-preserved
 loop-subpackage-preserved c =
     c.loop-subpackage.invariant
     ∙ walk-on (add_depends c.args.env.now) c.args.subpackages.now c.loop-subpackage.subpackage-index c.loop-subpackage.found.items
-        c.in_ok-found.found.items c.subpackage-item.result c.deref.result.now
+    c.in_ok-found.found.items c.subpackage-item.result c.deref.result.now
     c.loop-subpackage.budget c.with_depends.new.budget c.loop-subpackage-test.true c.subpackage-item.is
-        c.deref.ensures c.in_ok-found.ensures
+    c.deref.ensures c.in_ok-found.ensures
 
 pub returns : goal.returns
 returns c =
     c.loop-subpackage.invariant
     ∙ walk-ends (add_depends c.args.env.now) c.args.subpackages.now c.loop-subpackage.subpackage-index c.loop-subpackage.found.items
-        c.loop-subpackage.budget c.loop-subpackage-test.false
+    c.loop-subpackage.budget c.loop-subpackage-test.false

@@ -8,7 +8,7 @@ use Rattle.port_rules.proofs.package_names.extended.Given as goal
 abbrev pub invariant-loop-flavor : goal.invariant-loop-flavor
 invariant-loop-flavor l =
     string_bytes l.text ≡ string_bytes l.initial.text ++ flat_map (λ word. dash ∷ word)
-        (map string_bytes (take l.flavor-index l.flavor-items))
+    (map string_bytes (take l.flavor-index l.flavor-items))
 
 abbrev pub invariant-loop-mark : goal.invariant-loop-mark
 invariant-loop-mark l =

@@ -12,7 +12,7 @@ returns-then-not-branch c =
     ap (holds c.loop-text.before) c.as_str.ensures.value ∙ c.loop-text.invariant.held (string_bytes c.text-item.result) in
     sym (has_double-found c.args.texts.now (c.loop-text.text-index + 1)
     (has_double-next c.args.texts.now c.loop-text.text-index c.text-item.result held c.loop-text-test.true c.text-item.is among
-        c.loop-text.invariant.apart
+    c.loop-text.invariant.apart
     ∙ not-new c.in_ok-insert.field-0 held c.in_ok-insert.ensures.new c.if-not-branch.true))
 
 pub loop-text-preserved : goal.loop-text-preserved

@@ -34,10 +34,17 @@ pub loop-index-preserved : goal.loop-index-preserved
 loop-index-preserved g c =
     let step : Effect = record { told = c.step-told.result; sent = c.in_ok-sent.sent.items } in
     run_next (new_state (key_texts c.args.config.keys.items) (sizes_of c.args.config)) c.loop-index.service c.step-told.new.self
-        c.args.events.now c.loop-index.index c.index-events-index.result c.loop-index.steps.items c.push.new.self.items step
+    c.args.events.now c.loop-index.index c.index-events-index.result c.loop-index.steps.items c.push.new.self.items step
     c.loop-index-test.true c.index-events-index.is c.loop-index.invariant
-    (record { allowed = c.allows.ensures.0 c.if-not-allows.false; sent = c.in_ok-sent.ensures; does = c.step-told.ensures.does; spends =
-        c.step-told.ensures.spends; short = c.step-told.ensures.short; jobs = c.step-told.ensures.jobs })
+    (record {
+      allowed = c.allows.ensures.0 c.if-not-allows.false;
+      sent = c.in_ok-sent.ensures;
+      does = c.step-told.ensures.does;
+      spends =
+          c.step-told.ensures.spends;
+      short = c.step-told.ensures.short;
+      jobs = c.step-told.ensures.jobs;
+    })
     c.in_ok-push.ensures.items
 
 pub returns-clause-run : goal.returns-clause-run
@@ -47,16 +54,16 @@ returns-clause-run g c = run_all (new_state (key_texts c.args.config.keys.items)
 pub returns-clause-plainly : goal.returns-clause-plainly
 returns-clause-plainly g c = λ t within.
     run_plainly (key_texts c.args.config.keys.items) (sizes_of c.args.config) c.args.events.now c.loop-index.steps.items
-        c.loop-index.service t (omega (arith, length_texts c.args.config.keys.items, within))
+    c.loop-index.service t (omega (arith, length_texts c.args.config.keys.items, within))
     (run_all (new_state (key_texts c.args.config.keys.items) (sizes_of c.args.config)) c.loop-index.service c.args.events.now
-        c.loop-index.index c.loop-index.steps.items c.loop-index-test.false c.loop-index.invariant)
+    c.loop-index.index c.loop-index.steps.items c.loop-index-test.false c.loop-index.invariant)
 
 pub returns-clause-converses : goal.returns-clause-converses
 returns-clause-converses g c = λ d.
     run_converses (key_texts c.args.config.keys.items) (sizes_of c.args.config) c.args.events.now
-        c.loop-index.steps.items c.loop-index.service d
+    c.loop-index.steps.items c.loop-index.service d
     (run_all (new_state (key_texts c.args.config.keys.items) (sizes_of c.args.config)) c.loop-index.service c.args.events.now
-        c.loop-index.index c.loop-index.steps.items c.loop-index-test.false c.loop-index.invariant)
+    c.loop-index.index c.loop-index.steps.items c.loop-index-test.false c.loop-index.invariant)
 
 pub returns-clause-in_time : goal.returns-clause-in_time
 returns-clause-in_time g c =

@@ -10,10 +10,10 @@ use Rattle.ports_core.proofs.intake.admit.Goals as goal
 pub returns-clause-queues : goal.returns-clause-queues
 returns-clause-queues c =
     joins_at (key_texts c.args.keys.now) c.args.conn c.args.queues.now c.args.request c.in-Some.place
-        c.index-queues-place.result c.join.new.self
+    c.index-queues-place.result c.join.new.self
     (ap (λ (r : RequestMessage). tenant_of (key_texts c.args.keys.now) r.key) (sym c.request.view_is) ∙ sym c.in-Some.ensures.place)
     (omega (arith, c.in-Some.ensures.within, c.requires.keyed))
     (slice_get_read c.args.queues.now (length c.args.queues.now) c.in-Some.place c.index-queues-place.result refl
-        (omega (arith, c.in-Some.ensures.within, c.requires.keyed)) c.index-queues-place.is)
+    (omega (arith, c.in-Some.ensures.within, c.requires.keyed)) c.index-queues-place.is)
     (c.join.ensures ∙ ap (λ (queue : Queue). queue ++ record { conn = c.args.conn; request = c.args.request } ∷ [])
-        (sym c.index-queues-place.is))
+    (sym c.index-queues-place.is))

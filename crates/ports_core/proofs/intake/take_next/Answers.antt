@@ -8,5 +8,5 @@ returns-then-not-is_ready c = takes_nothing (key_texts c.args.keys.now) c.args.c
 pub returns : goal.returns
 returns c =
     takes_answer (key_texts c.args.keys.now) c.args.conn c.args.queues.now c.args.connection.now c.next_request-answer.new.self
-        c.next_request-answer.result _ _ _ (cc) c.next_request-answer.ensures
+    c.next_request-answer.result _ _ _ (cc) c.next_request-answer.ensures
     c.settle.ensures.told c.settle.ensures.connection c.settle.ensures.queues

@@ -10,7 +10,7 @@ pub returns-then-contains : goal.returns-then-contains
 returns-then-contains c =
     let step = are_apart-drop c.args.keys.now c.loop-i.i c.index-keys-i.result c.loop-i-test.true c.index-keys-i.is in
     let found = list_any-rest (λ other. string_eq other c.index-keys-i.result) (c.loop-i.i + 1) c.args.keys.now _ c.contains.ensures.value
-        ∙ c.if-contains.true in
+    ∙ c.if-contains.true in
     sym (c.loop-i.invariant ∙ step ∙ ap (λ b. not b && are_apart (key_texts (drop (c.loop-i.i + 1) c.args.keys.now))) found)
 
 -- none is
@@ -18,7 +18,7 @@ pub loop-i-preserved : goal.loop-i-preserved
 loop-i-preserved c =
     let step = are_apart-drop c.args.keys.now c.loop-i.i c.index-keys-i.result c.loop-i-test.true c.index-keys-i.is in
     let found = list_any-rest (λ other. string_eq other c.index-keys-i.result) (c.loop-i.i + 1) c.args.keys.now _ c.contains.ensures.value
-        ∙ c.if-contains.false in
+    ∙ c.if-contains.false in
     c.loop-i.invariant ∙ step ∙ ap (λ b. not b && are_apart (key_texts (drop (c.loop-i.i + 1) c.args.keys.now))) found
 
 pub returns : goal.returns

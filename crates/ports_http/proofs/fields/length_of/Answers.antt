@@ -26,7 +26,7 @@ parsed text value r h same is =
     let some : 1 ≤ length value = leb-true 1 (length value) sizes.0 in
     let few : length value ≤ 18 = leb-true (length value) 18 sizes.1 in
     ap result_ok (parse_gives decimal_numerals 64 value r (rw same at h) (digits value is) (omega arith)
-        (omega (arith, digits_value_short decimal_numerals value 18 (digits value is) few)))
+    (omega (arith, digits_value_short decimal_numerals value 18 (digits value is) few)))
 
 pub returns-in_default : goal.returns-in_default
 returns-in_default c =
@@ -36,4 +36,4 @@ pub returns : goal.returns
 returns c =
     let is : is_length c.args.value.now ≡ true = sym c.is_length.ensures ∙ c.if-not-is_length.false in
     rw is (c.ok.ensures.value ∙ parsed c.in-Ok.digits.now c.args.value.now c.parse.result c.parse.ensures.value.0
-        c.in-Ok.ensures.cases.0 is)
+    c.in-Ok.ensures.cases.0 is)

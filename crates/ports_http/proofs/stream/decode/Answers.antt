@@ -11,7 +11,7 @@ loop-piece-preserved c =
       settled = c.in_ok-decode_piece.ensures.settled;
       decoded = subst (λ s. DecodedSoFar s c.decode_piece.new.conn c.decode_piece.new.decoded.requests.items c.decode_piece.new.decoded.end)
           (pieces_next (λ piece. piece.items) c.args.pieces.now c.loop-piece.piece-index _ _ c.loop-piece-test.true
-              (c.as_slice.ensures.value ∙ ap (λ v. v.items) c.piece-item.is)) so_far;
+          (c.as_slice.ensures.value ∙ ap (λ v. v.items) c.piece-item.is)) so_far;
     }
 
 pub returns : goal.returns

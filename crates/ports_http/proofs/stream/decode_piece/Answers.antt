@@ -28,7 +28,7 @@ feeding-preserved c =
           let on = fed_on (stream ++ front) c.feeding.conn c.feeding.decoded.requests.items c.feeding.decoded.end now
           (sym c.if-not-is_over.ensures) (c.feeding.invariant.decoded stream so_far) in
           let fed_so = subst (λ n. DecodedSoFar ((stream ++ front) ++ now) n c.feeding.decoded.requests.items c.feeding.decoded.end)
-              (sym c.feed.ensures) on in
+          (sym c.feed.ensures) on in
           rw (← append_assoc stream front now) (c.in_ok-take_all.ensures.decoded ((stream ++ front) ++ now) fed_so);
     }
 

@@ -12,6 +12,6 @@ returns c =
     let allow = c.in_ok-put_allow.ensures in
     let close = c.in_ok-put_close.ensures in
     subst (λ v. AppendsIfRoom c.args.out.now (reply_head v c.args.close c.args.size) c.put_line-2.result c.put_line-2.new.out)
-        c.reply.view_is
+    c.reply.view_is
     (puts_after c.put_line-2.new.out (line []) c.put_line-2.result
-        (appends_both (appends_both (appends_both (appends_both status content) size) allow) close) c.put_line-2.ensures)
+    (appends_both (appends_both (appends_both (appends_both status content) size) allow) close) c.put_line-2.ensures)

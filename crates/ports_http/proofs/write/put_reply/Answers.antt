@@ -6,5 +6,8 @@ pub returns : goal.returns
 unfolding reply_text
 returns c =
     rw (← c.body-body.ensures)
-    (appends_both c.in_ok-put_head.ensures record { items = c.in_ok-extend_from_slice.ensures.items; room =
-        c.in_ok-extend_from_slice.ensures.capacity })
+    (appends_both c.in_ok-put_head.ensures record {
+      items = c.in_ok-extend_from_slice.ensures.items;
+      room =
+          c.in_ok-extend_from_slice.ensures.capacity;
+    })

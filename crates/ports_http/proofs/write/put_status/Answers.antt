@@ -18,9 +18,9 @@ unfolding status_text
 returns c =
     let code = rw c.as_str.ensures at c.in_ok-put_text-2.ensures in
     let all = puts_after c.put_line.new.out (line (c.unwrap_or.result.now ++ [])) c.put_line.result
-        (appends_both (appends_both c.in_ok-put_text.ensures code) c.in_ok-put_text-3.ensures) c.put_line.ensures in
+    (appends_both (appends_both c.in_ok-put_text.ensures code) c.in_ok-put_text-3.ensures) c.put_line.ensures in
     let phrase : c.unwrap_or.result.now ++ [] ≡ unwrap_or (reason_phrase c.args.status) [] =
     append-nil c.unwrap_or.result.now ∙ ap (λ (s : Bor (List ℕ)). s.now) c.unwrap_or.ensures ∙ behind c.canonical_reason.result _
-        ∙ ap (λ o. unwrap_or o []) c.canonical_reason.ensures.value in
+    ∙ ap (λ o. unwrap_or o []) c.canonical_reason.ensures.value in
     subst (λ (p : List ℕ). AppendsIfRoom c.args.out.now (line (codes "HTTP/1.1 " ++ (code_digits c.args.status ++ codes " " ++ p)))
-        c.put_line.result c.put_line.new.out) phrase all
+    c.put_line.result c.put_line.new.out) phrase all

@@ -8,4 +8,4 @@ use Rattle.ports_query.proofs.candidate.meets_all.Given as goal
 abbrev pub invariant-loop-condition : goal.invariant-loop-condition
 invariant-loop-condition l =
     list_all (λ condition. meets l.candidate.path.now l.candidate.port.now l.candidate.found.now (condition_seen condition))
-        (take l.condition-index l.conditions) ≡ true
+    (take l.condition-index l.conditions) ≡ true

@@ -13,5 +13,5 @@ returns-in-Meets c =
     let candidate = c.args.candidate in
     let met = meets candidate.path.now candidate.port.now candidate.found.now in
     let same = sym (list_all-map met condition_seen c.conditions.result.now) ∙ ap (list_all met) c.conditions.ensures
-        ∙ ap (λ test. passes test candidate) (sym c.in-Meets.is) in
+    ∙ ap (λ test. passes test candidate) (sym c.in-Meets.is) in
     IfOk-weaker c.meets_all.result _ _ (λ all is. is ∙ same) c.meets_all.ensures

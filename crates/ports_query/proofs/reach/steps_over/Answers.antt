@@ -12,6 +12,6 @@ loop-edge-preserved c =
     let edge = c.edge-item.result in
     let before = map step_seen c.loop-edge.steps.items in
     filter_map-more (arrow_of c.args.kinds) edges at edge before (map step_seen c.add_step.new.steps.items)
-        c.loop-edge-test.true c.loop-edge.invariant
+    c.loop-edge-test.true c.loop-edge.invariant
     (c.in_ok-add_step.ensures ∙ ap (λ given. before ++ option_to_list given) (c.in_ok-over.ensures
-        ∙ ap (arrow_of c.args.kinds) c.edge-item.is))
+    ∙ ap (arrow_of c.args.kinds) c.edge-item.is))

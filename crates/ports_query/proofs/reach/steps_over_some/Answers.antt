@@ -21,9 +21,9 @@ loop-edge-preserved c =
     let arrow = arrow_of c.args.kinds in
     let inside : at < length edges = c.loop-edge-test.true in
     filter_map-more arrow (edges_lent edges) at edge.now before (map step_seen c.add_step.new.steps.items)
-        (omega (arith, inside, length-map edges now))
+    (omega (arith, inside, length-map edges now))
     (c.loop-edge.invariant ∙ ap (filter_map arrow) (sym (take-map now at edges)))
     (c.in_ok-add_step.ensures
     ∙ ap (λ given. before ++ option_to_list given) (c.in_ok-over.ensures
-        ∙ ap arrow (ap now c.edge-item.is ∙ sym (get_or-map now edges at edge edge.now inside))))
+    ∙ ap arrow (ap now c.edge-item.is ∙ sym (get_or-map now edges at edge edge.now inside))))
     ∙ ap (filter_map arrow) (take-map now (at + 1) edges)

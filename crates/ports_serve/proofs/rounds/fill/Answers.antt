@@ -18,6 +18,6 @@ returns-clause-after g c =
     let size = c.resize.ensures.len ∙ ap (λ result. if is_ok result then c.args.size else vec_len c.args.buffer.now) c.unwrap.ensures in
     subst (λ bytes. g.W.Wire.after c.args.wire.now (Read c.args.conn c.args.size (read_outcome bytes c.read.result)) c.read.new.self)
     (sym (written_over c.resize.new.self.len c.read.new.buffer c.resize.new.self.items (c.read.ensures.size ∙ c.as_mut_slice.ensures.len)
-        (sym c.resize.new.self.ok.0)))
+    (sym c.resize.new.self.ok.0)))
     (subst (λ count. g.W.Wire.after c.args.wire.now (Read c.args.conn count (read_outcome c.read.new.buffer c.read.result)) c.read.new.self)
     (c.as_mut_slice.ensures.len ∙ size) c.read.ensures.after)

@@ -8,4 +8,4 @@ use Rattle.ports_serve.proofs.rounds.requests_wait.Given as goal
 abbrev pub invariant-loop-tenant : goal.invariant-loop-tenant
 invariant-loop-tenant g l =
     list_any (λ t. not (waiting_at t l.fn.service == 0)) (numbers_from l.tenant (length (keys_of l.fn.service) - l.tenant)) ≡ waits
-        l.fn.service
+    l.fn.service

@@ -28,7 +28,7 @@ loop-round-preserved g c =
         goes_through g.W.Wire.after underway.0 (brings c.round-left.ensures.goes.course) c.args.wire.now l.wire c.round-left.new.wire
             c.args.service l.service c.round-left.new.service
             (round_then (c.args.rounds - l._round) (c.args.rounds - (l._round + 1)) l.idle c.round-left.result.1 l.service
-                c.round-left.new.service next)
+            c.round-left.new.service next)
             underway.1 went,
       );
       buffer = c.round-left.ensures.buffer;

@@ -19,14 +19,14 @@ pub loop-tenant-preserved : goal.loop-tenant-preserved
 loop-tenant-preserved g c = record {
   going =
       goes_through g.W.Wire.after c.loop-tenant.worked c.happen-told.result c.args.wire.now c.loop-tenant.wire c.happen-told.new.wire
-          c.args.service.now c.loop-tenant.service c.happen-told.new.service
+      c.args.service.now c.loop-tenant.service c.happen-told.new.service
       (item_then TakesTurn c.loop-tenant.tenant c.loop-tenant.service c.happen-told.new.service
       (next_number c.loop-tenant.tenant (length (keys_of c.args.service.now))
-          (omega (arith, c.loop-tenant-test.true, c.tenants-tenant-end.ensures))))
+      (omega (arith, c.loop-tenant-test.true, c.tenants-tenant-end.ensures))))
       c.loop-tenant.invariant.going c.happen-told.ensures;
   keys =
       turn_keeps_keys g.W.Wire.after c.loop-tenant.tenant c.loop-tenant.wire c.happen-told.new.wire c.loop-tenant.service
-          c.happen-told.new.service c.happen-told.result c.happen-told.ensures
+      c.happen-told.new.service c.happen-told.result c.happen-told.ensures
       ∙ c.loop-tenant.invariant.keys;
 }
 
@@ -34,5 +34,5 @@ pub returns : goal.returns
 returns g c =
     ends g.W.Wire.after c.loop-tenant.worked c.args.wire.now c.loop-tenant.wire c.args.service.now c.loop-tenant.service
     (none_left TakesTurn c.loop-tenant.service (no_number c.loop-tenant.tenant (length (keys_of c.args.service.now))
-        (omega (arith, c.loop-tenant-test.false, c.tenants-tenant-end.ensures))))
+    (omega (arith, c.loop-tenant-test.false, c.tenants-tenant-end.ensures))))
     c.loop-tenant.invariant.going

@@ -15,10 +15,10 @@ returns-in-Some-clause-read c =
     let met = c.in_ok-matches.ensures.matches (ap is_simple is_portsd ∙ portsd_is_simple) in
     let invocation = met.1 ∙ ap (λ (a : App). subcommand_of a words) is_portsd in
     let found = is_met _ _ _ c.in-Some.name.now (rows_of (found_of c.in-Some.given.now)) (sym c.in-Some.ensures.name)
-        (sym c.in-Some.ensures.rows) in
+    (sym c.in-Some.ensures.rows) in
     let is_serve : c.in-Some.name.now ≡ codes "serve" = search rules in
     subst (λ (s : Option (Text × List Row)). SubcommandAsks s (Serve c.in_ok-serving_given-in-Some.field-0)) (sym found ∙ invocation)
-        (λ named. c.in_ok-serving_given-in-Some.ensures, λ other. absurd (other is_serve))
+    (λ named. c.in_ok-serving_given-in-Some.ensures, λ other. absurd (other is_serve))
 
 pub returns-in-Some-clause-fails : goal.returns-in-Some-clause-fails
 returns-in-Some-clause-fails c =
@@ -33,10 +33,10 @@ returns-in-Some-2-clause-read c =
     let met = c.in_ok-matches.ensures.matches (ap is_simple is_portsd ∙ portsd_is_simple) in
     let invocation = met.1 ∙ ap (λ (a : App). subcommand_of a words) is_portsd in
     let found = is_met _ _ _ c.in-Some.name.now (rows_of (found_of c.in-Some.given.now)) (sym c.in-Some.ensures.name)
-        (sym c.in-Some.ensures.rows) in
+    (sym c.in-Some.ensures.rows) in
     let is_other : c.in-Some.name.now ≡ codes "serve" → ⊥ = search rules in
     subst (λ (s : Option (Text × List Row)). SubcommandAsks s (Replay c.in_ok-config_given-in-Some-2.field-0)) (sym found ∙ invocation)
-        (λ named. absurd (is_other named), λ other. c.in_ok-config_given-in-Some-2.ensures)
+    (λ named. absurd (is_other named), λ other. c.in_ok-config_given-in-Some-2.ensures)
 
 pub returns-in-Some-2-clause-fails : goal.returns-in-Some-2-clause-fails
 returns-in-Some-2-clause-fails c =
@@ -53,7 +53,7 @@ returns-clause-read c =
     let none = is_unmet _ _ _ (sym c.in-None.ensures.name) in
     let config : Config = record { keys = c.new.result; parses = 256; evals = 1024 } in
     subst (λ (s : Option (Text × List Row)). SubcommandAsks s (Replay config)) (sym none ∙ invocation)
-        (ap key_texts c.new.ensures.items, refl, refl)
+    (ap key_texts c.new.ensures.items, refl, refl)
 
 pub returns-clause-fails : goal.returns-clause-fails
 returns-clause-fails c =

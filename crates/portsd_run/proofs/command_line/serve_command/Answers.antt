@@ -12,4 +12,4 @@ returns c =
     let with_parses = c.in_ok-arg-3.ensures.shape c.size_argument.ensures.1 ∙ ap₂ with_rule with_turns c.size_argument.ensures.0 in
     let with_evals = c.in_ok-arg-4.ensures.shape c.size_argument-2.ensures.1 ∙ ap₂ with_rule with_parses c.size_argument-2.ensures.0 in
     IfOk-weaker c.arg-5.result _ _ (λ r h. h.shape c.keys_argument.ensures.1 ∙ ap₂ with_rule with_evals c.keys_argument.ensures.0)
-        c.arg-5.ensures
+    c.arg-5.ensures

@@ -25,14 +25,14 @@ returns-in_err-wire-clause-failed g c =
     let fit = not_false (is_fit c.args.serving.config) (λ unfit. let refused = c.in_ok-service.ensures.unfit.1 unfit in cc) in
     let p = err_from_is_err_and c.from_residual-in_err-wire.result c.from_residual-in_err-wire.ensures.1 in
     rw (p.1, p.2) (not_listening (g.L.Listen.listens_on) c.args.serving (g.O.Write.contents c.args.out.now) fit c.listen.result _
-        c.in_err-wire.ensures.fails)
+    c.in_err-wire.ensures.fails)
 
 pub returns-in_err-say_ready-clause-failed : goal.returns-in_err-say_ready-clause-failed
 returns-in_err-say_ready-clause-failed g c =
     let fit = not_false (is_fit c.args.serving.config) (λ unfit. let refused = c.in_ok-service.ensures.unfit.1 unfit in cc) in
     let p = err_from_is_err_and c.from_residual-in_err-say_ready.result c.from_residual-in_err-say_ready.ensures.1 in
     let listens = listens_on (g.L.Listen.listens_on c.args.serving.port) c.listen.result c.in_ok-wire.wire
-        c.in_ok-wire.ensures.listens c.listen.ensures in
+    c.in_ok-wire.ensures.listens c.listen.ensures in
     rw (p.1, p.2, c.in_err-say_ready.ensures.fails) (fit, (c.in_ok-wire.wire, listens), c.in_err-say_ready.ensures.front)
 
 pub returns-in_err-_served-clause-failed : goal.returns-in_err-_served-clause-failed
@@ -40,5 +40,5 @@ returns-in_err-_served-clause-failed g c =
     let fit = not_false (is_fit c.args.serving.config) (λ unfit. let refused = c.in_ok-service.ensures.unfit.1 unfit in cc) in
     let p = err_from_is_err_and c.from_residual-in_err-_served.result c.from_residual-in_err-_served.ensures.1 in
     let listens = listens_on (g.L.Listen.listens_on c.args.serving.port) c.listen.result c.in_ok-wire.wire
-        c.in_ok-wire.ensures.listens c.listen.ensures in
+    c.in_ok-wire.ensures.listens c.listen.ensures in
     rw (p.1, p.2) (fit, inr ((c.in_ok-wire.wire, listens), c.in_ok-say_ready.ensures.said))

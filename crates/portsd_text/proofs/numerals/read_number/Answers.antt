@@ -15,14 +15,14 @@ returns-then-text-gt20 c =
       | then-text-gt20-via-then-text-gt20 w ↦ sym (number_of-long c.args.text.now (omega arith))
       | then-text-gt20-via-else-text-gt20+then-not-all w ↦
           let all : w.all.result ≡ list_all is_ascii_digit c.args.text.now = all_from_yields_List is_ascii_digit _ _ _ w.all.ensures.ran
-              (YieldsList-from_slice c.args.text.now cc) (λ x b q k. search (rules, tests)) in
+          (YieldsList-from_slice c.args.text.now cc) (λ x b q k. search (rules, tests)) in
           sym (number_of-other c.args.text.now cc)
     ]
 
 pub returns : goal.returns
 returns c =
     let all : c.all.result ≡ list_all is_ascii_digit c.args.text.now = all_from_yields_List is_ascii_digit _ _ _ c.all.ensures.ran
-        (YieldsList-from_slice c.args.text.now cc) (λ x b q k. search (rules, tests)) in
+    (YieldsList-from_slice c.args.text.now cc) (λ x b q k. search (rules, tests)) in
     let digits : list_all is_ascii_digit c.args.text.now ≡ true = cc in
     rw c.ok.ensures.value (number_of-parsed c.args.text.now _ digits (omega arith)
-        (parse_digits decimal_numerals 64 c.args.text.now _ c.parse.ensures.value.0 digits))
+    (parse_digits decimal_numerals 64 c.args.text.now _ c.parse.ensures.value.0 digits))

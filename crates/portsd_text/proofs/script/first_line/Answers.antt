@@ -10,7 +10,7 @@ pub returns-in_err-end-clause-lines : goal.returns-in_err-end-clause-lines
 returns-in_err-end-clause-lines c =
     let text = c.args.text.now in
     let at : c.position.result ≡ position (λ byte. byte == 10) text = position_from_yields_List (λ byte. byte == 10) _ _ _
-        c.position.ensures.ran (YieldsList-from_slice text cc) (λ x b q k. search (rules, tests)) in
+    c.position.ensures.ran (YieldsList-from_slice text cc) (λ x b q k. search (rules, tests)) in
     rw c.from_residual.ensures (first_line-none text c.position.result at c.in_err-end.was)
 
 pub returns-clause-lines : goal.returns-clause-lines
@@ -18,6 +18,6 @@ returns-clause-lines c =
     let text = c.args.text.now in
     let end = c.in_ok-end.end in
     let at : c.position.result ≡ position (λ byte. byte == 10) text = position_from_yields_List (λ byte. byte == 10) _ _ _
-        c.position.ensures.ran (YieldsList-from_slice text cc) (λ x b q k. search (rules, tests)) in
+    c.position.ensures.ran (YieldsList-from_slice text cc) (λ x b q k. search (rules, tests)) in
     rw (take_all (length text - (end + 1)) (drop (end + 1) text) (omega (arith, length-drop (end + 1) text)))
     (first_line-some text c.position.result end at c.in_ok-end.was).1

@@ -11,7 +11,7 @@ returns-in-Some-clause-ok c =
     OnOk-then _ _ c.push.result
     (λ added later.
     ap (put_before (numbered c.args.script.now))
-        (with_line-event c.args.line c.args.text.now (entry_of_event c.in-Some.event) later other event)
+    (with_line-event c.args.line c.args.text.now (entry_of_event c.in-Some.event) later other event)
     ∙ put_before-twice (numbered c.args.script.now) ((c.args.line, entry_of_event c.in-Some.event) ∷ []) later
     ∙ ap (λ entries. put_before entries later) (sym added))
     c.push.ensures.added

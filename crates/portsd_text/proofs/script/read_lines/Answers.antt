@@ -47,4 +47,4 @@ returns-clause-ok c =
     let loop = c.loop-front in
     let last = events_from-end c.args.whole loop.line loop.rest.now (search rules) c.in_default.ensures.lines in
     sym loop.invariant.same ∙ ap (put_before (numbered loop.script)) last ∙ c.in_ok-push_line-2.ensures.ok (Ok [])
-        ∙ ap Ok (append-nil (numbered c.push_line-2.new.script))
+    ∙ ap Ok (append-nil (numbered c.push_line-2.new.script))

@@ -17,10 +17,13 @@ loop-at-preserved c =
     let at = c.in-Some.at in
     let before = string_bytes c.loop-at.text in
     let run = escaped_bytes-run rest at (sym c.in-Some.ensures) in
-    rw (take_all (length rest - (at + 1)) (drop (at + 1) rest) (omega (arith, length-drop (at + 1) rest)), c.in_ok-push_escape.ensures,
-        c.in_ok-push_text.ensures)
+    rw (
+      take_all (length rest - (at + 1)) (drop (at + 1) rest) (omega (arith, length-drop (at + 1) rest)),
+      c.in_ok-push_escape.ensures,
+      c.in_ok-push_text.ensures,
+    )
     (append_assoc (before ++ take at rest) _ _ ∙ append_assoc before (take at rest) _
-        ∙ ap (λ x. before ++ x) (sym run) ∙ c.loop-at.invariant)
+    ∙ ap (λ x. before ++ x) (sym run) ∙ c.loop-at.invariant)
 
 pub push_text-requires-2 : goal.push_text-requires-2
 push_text-requires-2 c = all_plain-IsUtf8 c.loop-at.rest.now (sym c.in_default.ensures)

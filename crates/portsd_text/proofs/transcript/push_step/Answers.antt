@@ -7,4 +7,4 @@ unfolding printed
 returns c =
     rw (← c.step.view_is, ← c.as_slice.ensures.value)
     (four_pushed c.push_closed.result _ _ _ _ _ _ _ _ _ c.in_ok-push_sent.ensures c.in_ok-push_told.ensures
-        c.in_ok-push_refused.ensures c.push_closed.ensures)
+    c.in_ok-push_refused.ensures c.push_closed.ensures)

@@ -15,9 +15,9 @@ loop-index-preserved c =
     elim c.match-entry.branch [
       | in-Some+in_ok-push_step w ↦
           let more = transcript-more entries steps i (w.in-Some.line, entry_of_event w.in-Some.event.now) c.index-steps-index.result
-              (sym w.in-Some.ensures) (omega arith) c.index-steps-index.is in
+          (sym w.in-Some.ensures) (omega arith) c.index-steps-index.is in
           rw (w.text-is, w.in_ok-push_step.ensures, add-one) (append_assoc before _ _ ∙ ap (λ x. before ++ x) (sym more)
-              ∙ c.loop-index.invariant)
+          ∙ c.loop-index.invariant)
       | in_default w ↦
           let past = transcript-past entries (drop i steps) (drop (i + 1) steps) i (i + 1) (sym w.in_default.ensures) (omega arith) in
           rw w.text-is (ap (λ x. before ++ x) (sym past) ∙ c.loop-index.invariant)

@@ -7,11 +7,11 @@ use Rattle.stored_tenants.proofs.tenants.index_size_at.Goals as goal
 pub returns-in_err-get : goal.returns-in_err-get
 returns-in_err-get c =
     c.from_residual.ensures
-        ∙ sym (ap (option_and_then index_size) (slice_get_past c.args.tenants.now c.args.number c.in_err-get.ensures.lookup.3))
+    ∙ sym (ap (option_and_then index_size) (slice_get_past c.args.tenants.now c.args.number c.in_err-get.ensures.lookup.3))
 
 pub returns : goal.returns
 returns c =
     let lookup = c.in_ok-get.ensures.lookup in
     c.size_at_hand.ensures
     ∙ sym (ap (option_and_then index_size) (slice_get_read c.args.tenants.now _ c.args.number c.in_ok-get.field-0.now
-        refl lookup.3.0 lookup.1))
+    refl lookup.3.0 lookup.1))

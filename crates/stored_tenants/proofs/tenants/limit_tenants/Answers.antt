@@ -24,7 +24,7 @@ loop-tenant-preserved c =
           let right = c.loop-tenant.invariant.right before in
           set_right tenants t tenant inside right
           (limited old files.new.self keeper.new.self files.ensures keeper.ensures.rows keeper.ensures.begun
-              (keeper.ensures.kept (world_of old)) (right_at tenants t any inside right));
+          (keeper.ensures.kept (world_of old)) (right_at tenants t any inside right));
       worlds = worlds_kept tenants t any tenant inside files.ensures ∙ c.loop-tenant.invariant.worlds;
       jobs = jobs_kept tenants t any tenant inside refl ∙ c.loop-tenant.invariant.jobs;
     }

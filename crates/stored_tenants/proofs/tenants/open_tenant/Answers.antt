@@ -10,4 +10,4 @@ returns-clause-right c =
     let old : World = c.in_ok-store.store in
     let parts : found ≡ old.1 = λ i. record { path = c.in_ok-settings.ensures.path i; profile = c.in_ok-settings.ensures.profile i } in
     idle_right c.settings.new.self found c.new-keeper.result _ refl (parts ∙ ap (λ (w : World). w.1) (sym c.in_ok-settings.ensures.same))
-        (c.new-keeper.ensures c.settings.new.self)
+    (c.new-keeper.ensures c.settings.new.self)

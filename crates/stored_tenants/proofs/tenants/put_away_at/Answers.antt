@@ -17,7 +17,7 @@ returns-then-number-tenants-clause-right c = λ before.
     let inside : number < length tenants = omega (arith, c.if-number-tenants.true) in
     set_right tenants number (record old { keeper = keeper.new.self }) inside before
     (limited old (world_of old) keeper.new.self refl keeper.ensures.rows keeper.ensures.begun (keeper.ensures.kept (world_of old))
-        (right_at tenants number any inside before))
+    (right_at tenants number any inside before))
 
 pub returns-then-number-tenants-clause-worlds : goal.returns-then-number-tenants-clause-worlds
 returns-then-number-tenants-clause-worlds c =
@@ -39,4 +39,4 @@ returns-then-number-tenants-clause-rows c =
     let any = c.index-tenants-number.result in
     let inside : c.args.number < length tenants = omega (arith, c.if-number-tenants.true) in
     rows_kept tenants c.args.number any (record (get_or tenants c.args.number any) { keeper = c.put_away.new.self })
-        inside c.put_away.ensures.rows
+    inside c.put_away.ensures.rows

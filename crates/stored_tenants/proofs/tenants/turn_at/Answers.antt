@@ -22,7 +22,7 @@ take_turn-requires-clause-right c = right_at c.args.tenants.now c.args.number c.
 pub take_turn-requires-clause-for_request : goal.take_turn-requires-clause-for_request
 take_turn-requires-clause-for_request c =
     subst (IsForRequest c.args.incoming.now.request.now) (job_there c.args.tenants.now c.args.number c.index-tenants-number.result
-        c.requires.there) c.requires.for_request
+    c.requires.there) c.requires.for_request
 
 pub returns-clause-works : goal.returns-clause-works
 returns-clause-works c =
@@ -35,28 +35,28 @@ returns-clause-works c =
     if_ok c.take_turn.result
     (λ worked works.
     subst (λ (w : World). WorksOn w (world_at number (slice_set tenants number new)) incoming (job_at number tenants)
-        (job_at number (slice_set tenants number new)) worked) (sym (world_there tenants number any c.requires.there))
+    (job_at number (slice_set tenants number new)) worked) (sym (world_there tenants number any c.requires.there))
     (subst (λ (w : World). WorksOn (world_of old) w incoming (job_at number tenants) (job_at number (slice_set tenants number new)) worked)
-        (sym (world_set tenants number new c.requires.there))
+    (sym (world_set tenants number new c.requires.there))
     (subst (λ (job : Option TenantJob). WorksOn (world_of old) (world_of new) incoming job (job_at number (slice_set tenants number new))
-        worked) (sym (job_there tenants number any c.requires.there))
+    worked) (sym (job_there tenants number any c.requires.there))
     (subst (λ (job : Option TenantJob). WorksOn (world_of old) (world_of new) incoming (job_of old) job worked)
-        (sym (job_set tenants number new c.requires.there)) works))))
+    (sym (job_set tenants number new c.requires.there)) works))))
     c.take_turn.ensures.works
 
 pub returns-clause-err : goal.returns-clause-err
 returns-clause-err c =
     if_err c.take_turn.result
     (λ (is : IsIdle (world_of (get_or c.args.tenants.now c.args.number c.index-tenants-number.result)) c.take_turn.new.self). world_set
-        c.args.tenants.now c.args.number c.take_turn.new.self c.requires.there ∙ is.same
-        ∙ sym (world_there c.args.tenants.now c.args.number c.index-tenants-number.result c.requires.there)) c.take_turn.ensures.err
+    c.args.tenants.now c.args.number c.take_turn.new.self c.requires.there ∙ is.same
+    ∙ sym (world_there c.args.tenants.now c.args.number c.index-tenants-number.result c.requires.there)) c.take_turn.ensures.err
 
 pub returns-clause-dropped : goal.returns-clause-dropped
 returns-clause-dropped c =
     if_err c.take_turn.result
     (λ (is : IsIdle (world_of (get_or c.args.tenants.now c.args.number c.index-tenants-number.result)) c.take_turn.new.self).
     job_set c.args.tenants.now c.args.number c.take_turn.new.self c.requires.there
-        ∙ ap (option_map seen_job) is.none) c.take_turn.ensures.err
+    ∙ ap (option_map seen_job) is.none) c.take_turn.ensures.err
 
 pub returns-clause-rows : goal.returns-clause-rows
 returns-clause-rows c = λ before after was becomes.
@@ -69,7 +69,7 @@ returns-clause-rows c = λ before after was becomes.
     let was_old : old ≡ before = some_same (sym (slice_get-get_or tenants number any c.requires.there) ∙ was) in
     let is_new : new ≡ after = some_same (sym (get-set_same tenants number new c.requires.there) ∙ becomes) in
     subst (λ (one : Tenant). LeavesRowsOf question one after) was_old (subst (λ (one : Tenant). LeavesRowsOf question old one) is_new
-        c.take_turn.ensures.rows)
+    c.take_turn.ensures.rows)
 
 pub returns-clause-right : goal.returns-clause-right
 returns-clause-right c = set_right c.args.tenants.now c.args.number c.take_turn.new.self c.requires.there c.requires.right

@@ -9,7 +9,7 @@ use Rattle.text_graph.proofs.numbers.slot_of.Goals as goal
 
 four_more : (mark : ℕ) (rest : List ℕ) → 4 ≤ length rest
     → spread_with_bytes (spread mark (from_le_bytes w32 (get_or rest 0 0 ∷ get_or rest 1 0 ∷ get_or rest 2 0 ∷ get_or rest 3 0 ∷ [])))
-        (drop 4 rest) ≡ spread_with_bytes mark rest
+    (drop 4 rest) ≡ spread_with_bytes mark rest
 unfolding spread_with_bytes
 four_more mark (a ∷ b ∷ c ∷ d ∷ rest) enough = refl
 four_more mark (a ∷ b ∷ c ∷ []) enough = absurd (omega (arith, enough))
@@ -31,7 +31,7 @@ loop-rest-preserved c =
     let rest = c.loop-rest.rest.now in
     ap (spread_with_bytes c.spread-mark.result) (take_all (length rest - 4) (drop 4 rest) (omega (arith, length-drop 4 rest)))
     ∙ ap (λ mark. spread_with_bytes mark (drop 4 rest)) (c.spread-mark.ensures
-        ∙ ap (spread mark) (c.from.ensures ∙ c.from_le_bytes-four.ensures))
+    ∙ ap (spread mark) (c.from.ensures ∙ c.from_le_bytes-four.ensures))
     ∙ four_more mark rest (omega (arith, c.in-len4-up.len_at_least))
     ∙ c.loop-rest.invariant
 
@@ -40,4 +40,4 @@ unfolding slot_of
 returns-clause-is c =
     ap (λ mark. mark / 2 ^ 48 % SLOTS)
     (c.spread_bytes.ensures ∙ few_left c.loop-rest.mark c.loop-rest.rest.now (omega (arith, c.in_default.len_below))
-        ∙ c.loop-rest.invariant)
+    ∙ c.loop-rest.invariant)

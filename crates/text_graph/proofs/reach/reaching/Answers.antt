@@ -20,5 +20,5 @@ returns c =
     (lists_just (next_texts back goal) back (Reaches arrows goal) found texts (reaching_turned arrows goal)
     (subst (λ starts. FindsAll starts back found) (ap now_all c.deref.ensures.value ∙ c.in_ok-starts.ensures)
     (subst (λ turned. FindsAll (now_all c.deref.result.now) turned found) (ap arrows_seen c.deref-2.ensures.value
-        ∙ c.in_ok-back.ensures) c.in_ok-texts.ensures))
+    ∙ c.in_ok-back.ensures) c.in_ok-texts.ensures))
     c.put_in_order.ensures)

@@ -15,12 +15,12 @@ returns-then-passes-clause-first g c = λ test answers.
     let text = c.args.text.now in
     let at = c.loop-at.at in
     let passed : test (drop (at + 1) text) ≡ true =
-        sym (answers (drop (at + 1) text) c.passes.result
-        (record { shown = _; shows = take_rest text (at + 1); says = record { met = c.passes.ensures } })) ∙ c.if-passes.true in
+    sym (answers (drop (at + 1) text) c.passes.result
+    (record { shown = _; shows = take_rest text (at + 1); says = record { met = c.passes.ensures } })) ∙ c.if-passes.true in
     c.loop-at.invariant test answers
     ∙ from_here-found c.args.mark test text at c.loop-at-test.true
     (and_from (get_or text at 0 == c.args.mark) (test (drop (at + 1) text)) (eq-eqb (get_or text at 0) c.args.mark c.if-text-at.true)
-        passed)
+    passed)
 
 pub loop-at-preserved : goal.loop-at-preserved
 loop-at-preserved g c = λ test answers.
@@ -32,7 +32,7 @@ loop-at-preserved g c = λ test answers.
       | else-text-at-via-then-text-at+else-passes w ↦
           and_right (get_or text at 0 == c.args.mark) (test (drop (at + 1) text))
           (sym (answers (drop (at + 1) text) w.passes.result
-              (record { shown = _; shows = take_rest text (at + 1); says = record { met = w.passes.ensures } })) ∙ w.if-passes.false)
+          (record { shown = _; shows = take_rest text (at + 1); says = record { met = w.passes.ensures } })) ∙ w.if-passes.false)
       | else-text-at-via-else-text-at w ↦
           and_left (get_or text at 0 == c.args.mark) (test (drop (at + 1) text)) (ne_eqb (get_or text at 0) c.args.mark w.if-text-at.false)
     ])

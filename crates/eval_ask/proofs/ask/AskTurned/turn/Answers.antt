@@ -19,7 +19,7 @@ returns-in_ok-turn-in-More-clause-turns g c =
       enough = search rules;
       in_time = λ key come.
           subst (λ (old : AskTurned). EvaluatesInTime (files, key.settings) (Some (pair_for key)) c.args.units (spent_in old)
-              (spent_in came)) (sym c.in-More.is)
+          (spent_in came)) (sym c.in-More.is)
           (in-time files key c.args.units c.in-More.ask came (subst (HasComeTo files key) c.in-More.is come) turns);
       whole = subst (λ (old : AskTurned). TellsWhole old came) (sym c.in-More.is) (whole-turn files c.args.units c.in-More.ask came turns);
     }

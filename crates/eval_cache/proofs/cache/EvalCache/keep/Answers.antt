@@ -20,23 +20,23 @@ pub returns-clause-keeps : goal.returns-clause-keeps
 returns-clause-keeps c =
     let is = c.questions-answers.ensures ∙ ap (λ (evaluation : Evaluation). evaluation.trace) c.deref.ensures in
     let few : HasFewAnswers c.args.evaluation.value.trace = subst HasFewAnswers is
-        (omega (arith, c.if-answers-eq0.false), omega (arith, c.if-answers-gt-MOST_ANSWERS.false)) in
+    (omega (arith, c.if-answers-eq0.false), omega (arith, c.if-answers-gt-MOST_ANSWERS.false)) in
     subst (λ cache. Keeps (key_of c.args.key) c.args.evaluation.value.trace cache (with_evals (contents_of c.self.inside.parses.entries)
-        c.self.inside.parses.cap c.self.inside.counts c.self.inside.purpose c.put_new.new.table)) c.self.view_is
+    c.self.inside.parses.cap c.self.inside.counts c.self.inside.purpose c.put_new.new.table)) c.self.view_is
     (Keeps-put (contents_of c.self.inside.parses.entries) c.self.inside.parses.cap c.self.inside.counts c.self.inside.purpose
-        c.self.inside.evals c.pop-older.new.self c.put_new.new.table c.args.key c.args.evaluation.value
+    c.self.inside.evals c.pop-older.new.self c.put_new.new.table c.args.key c.args.evaluation.value
     c.pop-older.result c.with_newest-kept.result few c.pop-older.ensures.value c.with_newest-kept.ensures
-        c.pop-older.ensures.entries c.put_new.ensures)
+    c.pop-older.ensures.entries c.put_new.ensures)
 
 pub invariant_of-self : goal.invariant_of-self
 invariant_of-self c =
     let older = items-AreRight c.self.inside.evals.entries c.args.key c.pop-older.result c.self.invariant.evaluations
-        c.pop-older.ensures.value in
+    c.pop-older.ensures.value in
     let is = c.questions-answers.ensures ∙ ap (λ (evaluation : Evaluation). evaluation.trace) c.deref.ensures in
     let short : HasFewAnswers c.args.evaluation.value.trace = subst HasFewAnswers is
-        (omega (arith, c.if-answers-eq0.false), omega (arith, c.if-answers-gt-MOST_ANSWERS.false)) in
+    (omega (arith, c.if-answers-eq0.false), omega (arith, c.if-answers-gt-MOST_ANSWERS.false)) in
     let removed = subst (λ cache. AreRightForKeys cache.entries) (sym c.pop-older.ensures.entries)
-        (AreRightForKeys-removed c.self.inside.evals.entries c.args.key c.self.invariant.evaluations) in
+    (AreRightForKeys-removed c.self.inside.evals.entries c.args.key c.self.invariant.evaluations) in
     record {
       trees = c.self.invariant.trees;
       evaluations = AreRightForKeys-put c.self.inside.purpose c.pop-older.new.self c.put_new.new.table c.args.key

@@ -11,7 +11,7 @@ pub put_new-requires-clause-new : goal.put_new-requires-clause-new
 put_new-requires-clause-new c =
     no-parse c.self.inside.parses.entries c.args.key
     (is_some-parse c.self.inside.parses.entries c.args.key ∙ ap (λ cache. holds_parse cache c.args.key.content)
-        c.self.view_is ∙ c.requires.anew)
+    c.self.view_is ∙ c.requires.anew)
 
 pub invariant_of-self : goal.invariant_of-self
 invariant_of-self c = record {
@@ -23,5 +23,5 @@ invariant_of-self c = record {
 pub returns-clause-contents : goal.returns-clause-contents
 returns-clause-contents c =
     subst (λ cache. PutsParse c.args.key.content cache (with_parses (traces_by_key c.self.inside.evals.entries) c.self.inside.evals.cap
-        c.self.inside.counts c.self.inside.purpose c.put_new.new.table)) c.self.view_is
+    c.self.inside.counts c.self.inside.purpose c.put_new.new.table)) c.self.view_is
     (contents-put c.self.inside.purpose c.self.inside.parses c.put_new.new.table c.args.key c.in-Ok.parse c.put_new.ensures)

@@ -5,4 +5,4 @@ use Rattle.eval_cache.proofs.cache.EvalCacheParses.parsed.Goals as goal
 pub returns-clause-left : goal.returns-clause-left
 returns-clause-left c =
     AsksParses-one c.kept_or_new.result c.args.content.now c.args.self.now c.kept_or_new.new.self c.kept_or_new.ensures.handed
-        c.kept_or_new.ensures.err
+    c.kept_or_new.ensures.err

@@ -19,9 +19,9 @@ returns-clause-turn g c = λ settings way.
     let path = path_evaluated c.args.asking.ask in
     let old = shown no_name (g.R.PathRows.entries c.args.self.now.rows) in
     let turns = subst (λ (before : Spent). TurnsPath world path c.args.units before c.in_ok-turned.turned) (sym c.spent-before.ensures.is)
-        (c.in_ok-turned.ensures.turns settings way.under) in
+    (c.in_ok-turned.ensures.turns settings way.under) in
     subst (λ (before : Spent). IfOk c.settle.result (TurnsKeeper g.R.PathRows.entries world c.args.units (refresh_at old before)
-        c.settle.new.self)) c.spent-before.ensures.is
+    c.settle.new.self)) c.spent-before.ensures.is
     (c.settle.ensures.settles world path c.args.units way.ready turns)
 
 pub returns-clause-kept : goal.returns-clause-kept
@@ -29,5 +29,5 @@ returns-clause-kept g c = λ settings way.
     let world : World = ((view_of g.F.Names.view c.args.files.now).files, settings) in
     let path = path_evaluated c.args.asking.ask in
     let turns = subst (λ (before : Spent). TurnsPath world path c.args.units before c.in_ok-turned.turned) (sym c.spent-before.ensures.is)
-        (c.in_ok-turned.ensures.turns settings way.under) in
+    (c.in_ok-turned.ensures.turns settings way.under) in
     c.settle.ensures.kept world path c.args.units way.ready turns

@@ -28,7 +28,7 @@ returns-clause-kept g c = λ world way.
     let says = says-current world new current c.without.result
     (said-left old new c.args.last.stage.known c.without.result (needed_paths world) c.in_ok-others.others leaves way.far.stage.knows
     (λ path. c.without.ensures path ∙ ap (λ items. if is_one_of path (map string_bytes items) then None else said_in c.args.last.stage.known
-        path) c.deref.ensures.value)) in
+    path) c.deref.ensures.value)) in
     record {
       rows = AreKept-left world old way.kept new way.fresh leaves.left;
       progress = (

@@ -19,7 +19,7 @@ returns-clause-rows g c = λ path.
     ] in
     shown-more c.args.name.now (changed_in c.if-is_full.self.progress) (changed_in c.add_change.new.self)
     (λ other. c.in_ok-add_change.ensures.changed other
-        ∙ ap (λ bytes. bytes_eq bytes other || changed_in c.if-is_full.self.progress other) name)
+    ∙ ap (λ bytes. bytes_eq bytes other || changed_in c.if-is_full.self.progress other) name)
     (entries c.if-is_full.self.rows) path
     ∙ ap (option_map (stale_if_asked c.args.name.now)) same
 
@@ -29,14 +29,14 @@ returns-clause-other g c = λ world other differ tells kept.
     let before = c.if-is_full.self in
     let name = c.in_ok-name.ensures.ok ∙ c.as_str.ensures.text in
     let adds = λ (file : List ℕ). c.in_ok-add_change.ensures.changed file
-        ∙ ap (λ bytes. bytes_eq bytes file || changed_in before.progress file) name in
+    ∙ ap (λ bytes. bytes_eq bytes file || changed_in before.progress file) name in
     let is : IsProgress world (keeper_rows entries before) before.progress = elim c.if-is_full.branch [
       | then-is_full+in_ok-write_marks w ↦ rw w.self-is (IsProgress-stopped world (keeper_rows entries c.args.self.now) _
           c.args.self.now.progress _ w.in_ok-write_marks.ensures.progress w.in_ok-write_marks.ensures.rows kept.progress)
       | else-is_full w ↦ rw w.self-is kept.progress
     ] in
     let dropped = subst (λ bytes. DropsTo (stays_there bytes c.args.is_there) before.progress c.add_change.new.self) name
-        c.in_ok-add_change.ensures.dropped in
+    c.in_ok-add_change.ensures.dropped in
     record {
       rows = AreKept-noted c.args.name.now world other differ c.path_is_the_same_where_answered.ensures
           (keeper_rows entries c.args.self.now) _ (returns-clause-rows g c) kept.rows;
@@ -55,7 +55,7 @@ returns-clause-kept g c = λ world tells kept. returns-clause-other g c world wo
 pub returns-in_err-write_marks-clause-kept : goal.returns-in_err-write_marks-clause-kept
 returns-in_err-write_marks-clause-kept g c = λ world tells kept.
     IsKept-stopped g.R.PathRows.entries world c.args.self.now.rows c.write_marks.new.self.rows c.args.self.now.progress
-        c.write_marks.new.self.progress
+    c.write_marks.new.self.progress
     c.in_err-write_marks.ensures.progress c.in_err-write_marks.ensures.rows kept
 
 pub returns-in_err-name-clause-kept : goal.returns-in_err-name-clause-kept
@@ -75,5 +75,5 @@ returns-in_err-add_change-clause-kept g c = λ world tells kept.
       | else-is_full w ↦ rw w.self-is kept
     ] in
     subst (λ (progress : Progress). let keeper : Keeper g.row.R.Denot = record { rows = c.if-is_full.self.rows; progress = progress }
-        in IsKept entries world keeper)
+    in IsKept entries world keeper)
     (sym c.in_err-add_change.ensures.err) before

@@ -5,4 +5,4 @@ use Rattle.index_keep.proofs.keeper.Keeper.note_path.Goals as goal
 pub returns-in_err-mark_all-clause-kept : goal.returns-in_err-mark_all-clause-kept
 returns-in_err-mark_all-clause-kept g c = λ world kept.
     IsKept-same g.R.PathRows.entries world c.args.self.now.rows c.mark_all.new.self c.args.self.now.progress
-        c.in_err-mark_all.ensures.err kept
+    c.in_err-mark_all.ensures.err kept

@@ -11,7 +11,7 @@ returns-in-Ok-clause-kept g c = λ world kept.
     let old = shown no_name (g.R.PathRows.entries c.args.self.now.rows) in
     let new = shown no_name (g.R.PathRows.entries c.fresh_rows.new.rows) in
     let shows : ShowsSame old new = shown-same no_name (g.R.PathRows.entries c.args.self.now.rows)
-        (g.R.PathRows.entries c.fresh_rows.new.rows) c.fresh_rows.ensures.same in
+    (g.R.PathRows.entries c.fresh_rows.new.rows) c.fresh_rows.ensures.same in
     let current = AreCurrent-same world old new shows kept.progress.0 in
     let says = says-current world new current c.in-Ok.rows (λ path. c.in-Ok.ensures.known path ∙ said-same old new shows path) in
     record {

@@ -33,13 +33,13 @@ walk_on-requires g c =
     let is : c.args.self.now.progress ≡ Changed c.in-Changed.names c.in-Changed.last = sym c.replace.ensures.value ∙ c.in-Changed.is in
     let begun = c.in_ok-walk-in-Changed.ensures in
     let same : ShowsSame (keeper_rows entries c.args.self.now) (shown no_name (entries c.begun.new.self.rows)) = λ path. begun.ok.0 path
-        ∙ sym (ap (λ (p : Progress). shown (changed_in p) rows path) is) in
+    ∙ sym (ap (λ (p : Progress). shown (changed_in p) rows path) is) in
     let there : IsOnTheWay world (shown no_name (entries c.begun.new.self.rows)) c.in_ok-walk-in-Changed.walk = record {
       kept = AreKept-same world (keeper_rows entries c.args.self.now) (shown no_name (entries c.begun.new.self.rows)) same c.requires.rows;
       far = begun.walk;
     } in
     subst (λ (files : FileMap). let w : World = (files, c.args.settings.now) in IsOnTheWay w (shown no_name (entries c.begun.new.self.rows))
-        c.in_ok-walk-in-Changed.walk) (sym begun.leaves.files) there
+    c.in_ok-walk-in-Changed.walk) (sym begun.leaves.files) there
 
 pub returns-in_ok-walk-in-Changed-clause-turn : goal.returns-in_ok-walk-in-Changed-clause-turn
 returns-in_ok-walk-in-Changed-clause-turn g c =
@@ -49,14 +49,14 @@ returns-in_ok-walk-in-Changed-clause-turn g c =
     let is : c.args.self.now.progress ≡ Changed c.in-Changed.names c.in-Changed.last = sym c.replace.ensures.value ∙ c.in-Changed.is in
     let begun = c.in_ok-walk-in-Changed.ensures in
     let same : ShowsSame (keeper_rows entries c.args.self.now) middle = λ path. begun.ok.0 path
-        ∙ sym (ap (λ (p : Progress). shown (changed_in p) rows path) is) in
+    ∙ sym (ap (λ (p : Progress). shown (changed_in p) rows path) is) in
     let first : refresh_at middle no_spending ≡ refresh_of entries c.args.self.now = λ i. refresh_at (λ path. same path i)
-        (ap begun_in (sym is) i) in
+    (ap begun_in (sym is) i) in
     subst (λ (old : RefreshView). IfOk c.walk_on.result
-        (TurnsKeeper entries (view_world (view_of g.F.Names.view c.args.files.now) c.args.settings.now) c.args.units old
-        c.walk_on.new.self)) first
+    (TurnsKeeper entries (view_world (view_of g.F.Names.view c.args.files.now) c.args.settings.now) c.args.units old
+    c.walk_on.new.self)) first
     (subst (λ (files : FileMap). let w : World = (files, c.args.settings.now) in IfOk c.walk_on.result
-        (TurnsKeeper entries w c.args.units (refresh_at middle no_spending) c.walk_on.new.self)) begun.leaves.files c.walk_on.ensures.turn)
+    (TurnsKeeper entries w c.args.units (refresh_at middle no_spending) c.walk_on.new.self)) begun.leaves.files c.walk_on.ensures.turn)
 
 pub returns-in_ok-walk-in-Changed-clause-err : goal.returns-in_ok-walk-in-Changed-clause-err
 returns-in_ok-walk-in-Changed-clause-err g c =
@@ -65,10 +65,10 @@ returns-in_ok-walk-in-Changed-clause-err g c =
     let is : c.args.self.now.progress ≡ Changed c.in-Changed.names c.in-Changed.last = sym c.replace.ensures.value ∙ c.in-Changed.is in
     let begun = c.in_ok-walk-in-Changed.ensures in
     OnErr-map c.walk_on.result (λ stays. drops-forgotten rows (entries c.walk_on.new.self.rows) c.args.self.now.progress
-        c.walk_on.new.self.progress c.nothing.result c.nothing.ensures
+    c.walk_on.new.self.progress c.nothing.result c.nothing.ensures
     (stays.1 ∙ begun.ok.1 ∙ c.replace.ensures.after)
     (λ path. shown-same no_name (entries c.begun.new.self.rows) (entries c.walk_on.new.self.rows) stays.0 path ∙ begun.ok.0 path
-        ∙ sym (ap (λ (p : Progress). shown (changed_in p) rows path) is)))
+    ∙ sym (ap (λ (p : Progress). shown (changed_in p) rows path) is)))
     c.walk_on.ensures.err
 
 pub returns-in_ok-walk-in-Changed-clause-kept : goal.returns-in_ok-walk-in-Changed-clause-kept
@@ -77,7 +77,7 @@ returns-in_ok-walk-in-Changed-clause-kept g c =
     let world : World = view_world (view_of g.F.Names.view c.args.files.now) c.args.settings.now in
     let begun = c.in_ok-walk-in-Changed.ensures in
     let kept = subst (λ (files : FileMap). let w : World = (files, c.args.settings.now) in OnOk c.walk_on.result
-        (IsKept entries w c.walk_on.new.self)) begun.leaves.files c.walk_on.ensures.kept in
+    (IsKept entries w c.walk_on.new.self)) begun.leaves.files c.walk_on.ensures.kept in
     let both = OnErr-and c.walk_on.result _ _ (returns-in_ok-walk-in-Changed-clause-err g c) c.walk_on.ensures.err in
     OnOk-or c.walk_on.result kept both (λ stays. record {
       rows = AreKept-same world (keeper_rows entries c.args.self.now) (keeper_rows entries c.walk_on.new.self) stays.0.rows c.requires.rows;
@@ -92,10 +92,10 @@ returns-in-Walking-clause-err g c =
     let rows = entries c.args.self.now.rows in
     let is : c.args.self.now.progress ≡ Walking c.in-Walking.walk = sym c.replace.ensures.value ∙ c.in-Walking.is in
     OnErr-map c.walk_on-in-Walking.result (λ stays. drops-forgotten rows (entries c.walk_on-in-Walking.new.self.rows)
-        c.args.self.now.progress c.walk_on-in-Walking.new.self.progress c.nothing.result c.nothing.ensures
+    c.args.self.now.progress c.walk_on-in-Walking.new.self.progress c.nothing.result c.nothing.ensures
     (stays.1 ∙ c.replace.ensures.after)
     (λ path. shown-same no_name rows (entries c.walk_on-in-Walking.new.self.rows) stays.0 path
-        ∙ sym (ap (λ (p : Progress). shown (changed_in p) rows path) is)))
+    ∙ sym (ap (λ (p : Progress). shown (changed_in p) rows path) is)))
     c.walk_on-in-Walking.ensures.err
 
 pub returns-in-Walking-clause-kept : goal.returns-in-Walking-clause-kept
@@ -128,12 +128,16 @@ returns-in-Asking-clause-turn g c =
     let is : c.args.self.now.progress ≡ Asking c.in-Asking.walk c.in-Asking.ask = sym c.replace.ensures.value ∙ c.in-Asking.is in
     let asking = subst (λ (p : Progress). IsProgress world (shown (changed_in p) rows) p) is c.requires.progress in
     let way : IsAskOnTheWay world (shown no_name rows) c.in-Asking.walk c.in-Asking.ask = record {
-      ready = record { kept = subst (λ (p : Progress). AreKept world (shown (changed_in p) rows)) is c.requires.rows; far =
-          asking.0; lacking = asking.1 };
+      ready = record {
+        kept = subst (λ (p : Progress). AreKept world (shown (changed_in p) rows)) is c.requires.rows;
+        far =
+            asking.0;
+        lacking = asking.1;
+      };
       under = asking.2;
     } in
     subst (λ (p : Progress). IfOk c.ask_on.result
-        (TurnsKeeper entries world c.args.units (refresh_at (shown (changed_in p) rows) (begun_in p)) c.ask_on.new.self)) (sym is)
+    (TurnsKeeper entries world c.args.units (refresh_at (shown (changed_in p) rows) (begun_in p)) c.ask_on.new.self)) (sym is)
     (c.ask_on.ensures.turn c.args.settings.now way)
 
 pub returns-in-Asking-clause-err : goal.returns-in-Asking-clause-err
@@ -142,10 +146,10 @@ returns-in-Asking-clause-err g c =
     let rows = entries c.args.self.now.rows in
     let is : c.args.self.now.progress ≡ Asking c.in-Asking.walk c.in-Asking.ask = sym c.replace.ensures.value ∙ c.in-Asking.is in
     OnErr-map c.ask_on.result (λ stays. drops-forgotten rows (entries c.ask_on.new.self.rows) c.args.self.now.progress
-        c.ask_on.new.self.progress c.nothing.result c.nothing.ensures
+    c.ask_on.new.self.progress c.nothing.result c.nothing.ensures
     (stays.1 ∙ c.replace.ensures.after)
     (λ path. shown-same no_name rows (entries c.ask_on.new.self.rows) stays.0 path
-        ∙ sym (ap (λ (p : Progress). shown (changed_in p) rows path) is)))
+    ∙ sym (ap (λ (p : Progress). shown (changed_in p) rows path) is)))
     c.ask_on.ensures.err
 
 pub returns-in-Asking-clause-kept : goal.returns-in-Asking-clause-kept
@@ -156,8 +160,12 @@ returns-in-Asking-clause-kept g c =
     let is : c.args.self.now.progress ≡ Asking c.in-Asking.walk c.in-Asking.ask = sym c.replace.ensures.value ∙ c.in-Asking.is in
     let asking = subst (λ (p : Progress). IsProgress world (shown (changed_in p) rows) p) is c.requires.progress in
     let way : IsAskOnTheWay world (shown no_name rows) c.in-Asking.walk c.in-Asking.ask = record {
-      ready = record { kept = subst (λ (p : Progress). AreKept world (shown (changed_in p) rows)) is c.requires.rows; far =
-          asking.0; lacking = asking.1 };
+      ready = record {
+        kept = subst (λ (p : Progress). AreKept world (shown (changed_in p) rows)) is c.requires.rows;
+        far =
+            asking.0;
+        lacking = asking.1;
+      };
       under = asking.2;
     } in
     let both = OnErr-and c.ask_on.result _ _ (returns-in-Asking-clause-err g c) c.ask_on.ensures.err in

@@ -38,7 +38,7 @@ returns-in-More-clause-settles g c = λ world path units ready turns.
     let ask = c.in-More.ask in
     let spent = c.spent_since-spent.result in
     let within = subst (λ (spent : Spent). spent.units ≤ cost_at world path) c.spent.ensures.is
-        (c.spent.ensures.within world path more.come.0) in
+    (c.spent.ensures.within world path more.come.0) in
     let all = c.spent_since-spent.ensures ∙ c.spent.ensures.is in
     record {
       turn = goes-on world old path units c.args.before spent ask ready.lacking more.come.0 more.come.1 within all more.in_time more.short;

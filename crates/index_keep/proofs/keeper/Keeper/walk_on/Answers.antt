@@ -21,12 +21,12 @@ returns-in_ok-turned-in-Lacks-clause-turn g c =
     let next = subst (IsNext world old) c.in-Lacks.is (c.in_ok-walk.ensures.next old c.requires) in
     let ready : IsReadyFor world old c.in-Lacks.walk path = record { kept = c.requires.kept; far = next.0; lacking = next.1 } in
     let begins = subst (λ (files : FileMap). let w : World = (files, c.args.given.settings.now) in IsFoundAt w found
-        → TurnsPath w path c.args.given.units no_spending c.in_ok-turned-in-Lacks.turned)
+    → TurnsPath w path c.args.given.units no_spending c.in_ok-turned-in-Lacks.turned)
     c.in_ok-walk.ensures.leaves.files c.in_ok-turned-in-Lacks.ensures.turns in
     let turns = subst (λ (before : Spent). TurnsPath world path c.args.given.units before c.in_ok-turned-in-Lacks.turned)
-        (sym c.nothing.ensures) (begins next.2) in
+    (sym c.nothing.ensures) (begins next.2) in
     subst (λ (before : Spent). IfOk c.settle.result (TurnsKeeper g.R.PathRows.entries world c.args.given.units (refresh_at old before)
-        c.settle.new.self)) c.nothing.ensures
+    c.settle.new.self)) c.nothing.ensures
     (c.settle.ensures.settles world path c.args.given.units ready turns)
 
 pub returns-in_ok-turned-in-Lacks-clause-kept : goal.returns-in_ok-turned-in-Lacks-clause-kept
@@ -38,10 +38,10 @@ returns-in_ok-turned-in-Lacks-clause-kept g c =
     let next = subst (IsNext world old) c.in-Lacks.is (c.in_ok-walk.ensures.next old c.requires) in
     let ready : IsReadyFor world old c.in-Lacks.walk path = record { kept = c.requires.kept; far = next.0; lacking = next.1 } in
     let begins = subst (λ (files : FileMap). let w : World = (files, c.args.given.settings.now) in IsFoundAt w found
-        → TurnsPath w path c.args.given.units no_spending c.in_ok-turned-in-Lacks.turned)
+    → TurnsPath w path c.args.given.units no_spending c.in_ok-turned-in-Lacks.turned)
     c.in_ok-walk.ensures.leaves.files c.in_ok-turned-in-Lacks.ensures.turns in
     let turns = subst (λ (before : Spent). TurnsPath world path c.args.given.units before c.in_ok-turned-in-Lacks.turned)
-        (sym c.nothing.ensures) (begins next.2) in
+    (sym c.nothing.ensures) (begins next.2) in
     c.settle.ensures.kept world path c.args.given.units ready turns
 
 pub returns-in_ok-end-in-All-clause-turn : goal.returns-in_ok-end-in-All-clause-turn

@@ -10,6 +10,6 @@ pub returns-in_ok-_known-clause-rows : goal.returns-in_ok-_known-clause-rows
 returns-in_ok-_known-clause-rows g c = λ path.
     let old = g.R.PathRows.entries c.args.self.now.rows in
     shown-test (changed_in c.nothing.result) no_name (g.R.PathRows.entries c.begin.new.rows)
-        (forgotten c.nothing.result c.nothing.ensures) path
+    (forgotten c.nothing.result c.nothing.ensures) path
     ∙ c.in_ok-_known.ensures.marked path
     ∙ sym (ap (λ (progress : Progress). shown (changed_in progress) old path) c.in-Changed.is)

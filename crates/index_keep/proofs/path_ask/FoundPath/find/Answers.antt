@@ -23,8 +23,12 @@ pub returns-clause-found : goal.returns-clause-found
 returns-clause-found g c =
     let files = (view_of g.F.Names.view c.args.files.now).files in
     let world : World = (files, c.args.settings.now) in
-    let found : FoundPath = record { path = c.in_ok-from_str.field-0; named = c.in-Some.named; makefile = c.in-Some-makefile.makefile;
-        placed = c.in_ok-makefile.placed } in
+    let found : FoundPath = record {
+      path = c.in_ok-from_str.field-0;
+      named = c.in-Some.named;
+      makefile = c.in-Some-makefile.makefile;
+      placed = c.in_ok-makefile.placed;
+    } in
     let there = sym (c.in_ok-makefile.ensures.place ∙ ap (place world) c.directory.ensures) ∙ c.in-Some-makefile.is in
     let asked = c.in_ok-makefile.ensures.asked ∙ ap (places_asked files c.args.settings.now.path) c.directory.ensures in (
       c.in_ok-from_str.ensures.ok,

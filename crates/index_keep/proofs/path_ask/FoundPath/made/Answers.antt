@@ -21,17 +21,21 @@ pub returns-clause-row : goal.returns-clause-row
 returns-clause-row c =
     let outcome = c.args.asked.now.evaluation.value.outcome in
     let found : finding_seen c.in_ok-row.row ≡ finding_of_evaluation c.args.self.makefile (flavors_named c.args.self.named) outcome =
-        c.in_ok-row.ensures ∙ ap₂ (λ (flavors : Option (List (List ℕ))) (evaluation : Evaluation). finding_of_evaluation
-        c.args.self.makefile flavors evaluation.outcome) c.flavors.ensures c.deref.ensures in
+    c.in_ok-row.ensures ∙ ap₂ (λ (flavors : Option (List (List ℕ))) (evaluation : Evaluation). finding_of_evaluation
+    c.args.self.makefile flavors evaluation.outcome) c.flavors.ensures c.deref.ensures in
     let placed : map string_bytes c.in_ok-names.names.items ≡ names_in c.args.self.placed = c.in_ok-names.ensures
-        ∙ ap names_in c.questions.ensures in
+    ∙ ap names_in c.questions.ensures in
     let names : map string_bytes c.add_names.new.names.items ≡ names_in c.args.self.placed ++ names_in
-        c.args.asked.now.evaluation.value.trace =
+    c.args.asked.now.evaluation.value.trace =
     c.in_ok-add_names.ensures ∙ ap₂ (λ first more. first ++ more) placed
-        (ap names_in (c.questions-2.ensures ∙ ap (λ (evaluation : Evaluation). evaluation.trace) c.deref-2.ensures)) in
-    ap₂ (λ (found : Finding) (names : List (List ℕ)). let row : RowValue = record { outcome = found.outcome; cost = found.cost; names =
-        names } in row) found
-        (names ∙ sym (map-append (λ (question : Question). question.0) c.args.self.placed c.args.asked.now.evaluation.value.trace))
+    (ap names_in (c.questions-2.ensures ∙ ap (λ (evaluation : Evaluation). evaluation.trace) c.deref-2.ensures)) in
+    ap₂ (λ (found : Finding) (names : List (List ℕ)). let row : RowValue = record {
+      outcome = found.outcome;
+      cost = found.cost;
+      names =
+          names;
+    } in row) found
+    (names ∙ sym (map-append (λ (question : Question). question.0) c.args.self.placed c.args.asked.now.evaluation.value.trace))
 
 few_spent : (asked : Asked) (cost : ℕ) (spent : Spent) → spent ≡ spent_less_saved asked cost
     → cost ≤ cost_of asked.evaluation.value.outcome + UNITS
@@ -42,10 +46,10 @@ pub returns-clause-few : goal.returns-clause-few
 returns-clause-few c =
     let asked = c.args.asked.now in
     let found : finding_seen c.in_ok-row.row ≡ finding_of_evaluation c.args.self.makefile (flavors_named c.args.self.named)
-        asked.evaluation.value.outcome = c.in_ok-row.ensures
-        ∙ ap₂ (λ (flavors : Option (List (List ℕ))) (evaluation : Evaluation). finding_of_evaluation c.args.self.makefile flavors
-        evaluation.outcome) c.flavors.ensures c.deref.ensures in
+    asked.evaluation.value.outcome = c.in_ok-row.ensures
+    ∙ ap₂ (λ (flavors : Option (List (List ℕ))) (evaluation : Evaluation). finding_of_evaluation c.args.self.makefile flavors
+    evaluation.outcome) c.flavors.ensures c.deref.ensures in
     let most = most-found c.evaluations_cost_few.ensures c.records_cost_few.ensures c.args.self.makefile (flavors_named c.args.self.named)
-        asked.evaluation.value.outcome in
+    asked.evaluation.value.outcome in
     few_spent asked _ c.spent_on-spent.result c.spent_on-spent.ensures
     (subst (λ n. n ≤ cost_of asked.evaluation.value.outcome + UNITS) (sym (ap (λ (finding : Finding). finding.cost) found)) most)

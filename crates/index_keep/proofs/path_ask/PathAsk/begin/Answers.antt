@@ -13,10 +13,13 @@ use Rattle.index_keep.proofs.path_ask.PathAsk.begin.Goals as goal
 pub go_on-requires : goal.go_on-requires
 go_on-requires g c =
     let key = key_for c.args.settings.now c.args.found.makefile
-        (option_map (λ (names : Bor (List (String Global))). map string_bytes names.now) c.flavors.result) in
+    (option_map (λ (names : Bor (List (String Global))). map string_bytes names.now) c.flavors.result) in
     record {
-      begun = record { key = key; come = subst (λ (f : FileMap). HasComeTo f key c.in_ok-ask.ask) (sym c.in_ok-ask.ensures.leaves.0)
-          c.in_ok-ask.ensures.asks.comes };
+      begun = record {
+        key = key;
+        come = subst (λ (f : FileMap). HasComeTo f key c.in_ok-ask.ask) (sym c.in_ok-ask.ensures.leaves.0)
+            c.in_ok-ask.ensures.asks.comes;
+      };
       up = subst (λ (before : Spent). IsUpFrom before (spent_in c.in_ok-ask.ask)) (sym c.nothing.ensures)
           (record { units = omega arith; checks = omega arith });
       looked = subst (λ (before : Spent). HasLooked before c.in_ok-ask.ask) (sym c.nothing.ensures) c.in_ok-ask.ensures.asks.looked;
@@ -40,5 +43,5 @@ returns-clause-turns g c = λ at.
     } in
     let same = c.in_ok-ask.ensures.leaves.0 in
     let turns = subst (λ (f : FileMap). IsPathAsk (f, settings) path self
-        → IfOk c.go_on.result (TurnsPath (f, settings) path c.args.units c.nothing.result)) same (c.go_on.ensures.turns settings) under in
+    → IfOk c.go_on.result (TurnsPath (f, settings) path c.args.units c.nothing.result)) same (c.go_on.ensures.turns settings) under in
     subst (λ (before : Spent). IfOk c.go_on.result (TurnsPath world path c.args.units before)) c.nothing.ensures turns

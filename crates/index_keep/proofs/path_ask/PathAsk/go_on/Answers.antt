@@ -29,8 +29,12 @@ given-is units left before now after same is = is ∙ ap (λ (s : Spent). units 
 pub returns-then-left_of-eq0-clause-turns : goal.returns-then-left_of-eq0-clause-turns
 returns-then-left_of-eq0-clause-turns g c = λ settings is. record {
   come = (
-    record { at = is.at; found = is.found; come = c.in_ok-ask.ensures.turns.comes
-        (key_for settings c.args.self.found.makefile (flavors_named c.args.self.found.named)) is.come },
+    record {
+      at = is.at;
+      found = is.found;
+      come = c.in_ok-ask.ensures.turns.comes
+          (key_for settings c.args.self.found.makefile (flavors_named c.args.self.found.named)) is.come;
+    },
     all-spent c.args.units c.args.before (spent_in c.in_ok-ask.ask) c.spent-2.result c.spent-2.ensures.is
         (IsUpFrom-on c.args.before (spent_in c.args.self.ask) (spent_in c.in_ok-ask.ask) c.requires.up c.in_ok-ask.ensures.turns.up)
         (sym c.left_of.ensures ∙ c.if-left_of-eq0.true),
@@ -38,11 +42,11 @@ returns-then-left_of-eq0-clause-turns g c = λ settings is. record {
   in_time = in-time-on (view_of g.F.Names.view c.args.files.now).files settings c.args.self c.args.before c.in_ok-ask.ask c.args.units
       c.left_of-given.result is c.requires.looked c.requires.up
       (given-is c.args.units c.left_of-given.result c.args.before c.spent.result (spent_in c.args.self.ask) c.spent.ensures.is
-          c.left_of-given.ensures) c.in_ok-ask.ensures.turns;
+      c.left_of-given.ensures) c.in_ok-ask.ensures.turns;
   short = short-on (view_of g.F.Names.view c.args.files.now).files settings c.args.self c.args.before c.in_ok-ask.ask c.args.units
       c.left_of-given.result is c.requires.looked c.requires.up
       (given-is c.args.units c.left_of-given.result c.args.before c.spent.result (spent_in c.args.self.ask) c.spent.ensures.is
-          c.left_of-given.ensures) c.in_ok-ask.ensures.turns;
+      c.left_of-given.ensures) c.in_ok-ask.ensures.turns;
 }
 
 pub returns-clause-turns : goal.returns-clause-turns
@@ -58,7 +62,7 @@ returns-clause-turns g c = λ settings is.
     let few = subst (λ (turned : AskTurned). total_of row.spent ≤ total_of (spent_in turned) + UNITS) (sym done) made.few in
     let up = IsUpFrom-on c.args.before (spent_in c.args.self.ask) (spent_in c.in_ok-ask.ask) c.requires.up c.in_ok-ask.ensures.turns.up in
     let left = given-is c.args.units c.left_of.result c.args.before c.spent-2.result (spent_in c.in_ok-ask.ask)
-        c.spent-2.ensures.is c.left_of.ensures in
+    c.spent-2.ensures.is c.left_of.ensures in
     let is_made = made-row files found asked row made.path made.row made.spent settings (string_bytes found.path) refl is.found come in
     record {
       come = is_made;
@@ -66,7 +70,7 @@ returns-clause-turns g c = λ settings is.
           come.evaluation is_made made.spent
           (subst (λ (turned : AskTurned). IsUpFrom c.args.before (spent_in turned)) done up) c.if-left_of-eq0.false
           (subst (λ (turned : AskTurned). c.left_of.result ≡ c.args.units -
-              (((spent_in turned).units - c.args.before.units) + ((spent_in turned).checks - c.args.before.checks))) done left);
+          (((spent_in turned).units - c.args.before.units) + ((spent_in turned).checks - c.args.before.checks))) done left);
       short = short-made c.args.units c.left_of.result c.args.before (spent_in c.in_ok-ask.ask) row.spent up
           c.if-left_of-eq0.false left few;
     }

@@ -69,8 +69,8 @@ loop-place-preserved g c =
     let gone : has_makefile now path ≡ false = subst (IsFoundOf now path) c.in_default.is c.in_ok-found.ensures.found in
     let absent : has_makefile world (string_bytes text) ≡ false =
     ap (has_makefile world) (sym c.as_str-path.ensures.value)
-        ∙ subst (λ (files : FileMap). let w : World = (files, c.args.settings.now) in has_makefile w path ≡ false)
-        before.leaves.files gone in
+    ∙ subst (λ (files : FileMap). let w : World = (files, c.args.settings.now) in has_makefile w path ≡ false)
+    before.leaves.files gone in
     record {
       passed = λ passed at one. passes-more (λ at. is_some (decided world (entries_in known) at)) texts place text inside c.index.ensures
           (decided-absent world (entries_in known) (string_bytes text) absent)

@@ -20,7 +20,7 @@ returns-in_ok-know-in-Directories c = λ world old new walk more.
     let after = c.know.new.self in
     let knows = c.in_ok-know-in-Directories.ensures in
     let alike = subst (λ (at : List ℕ). IfSome c.lists_if_alike-lists.result (λ (kept : LastLists). (first.lists ≡ Some kept)
-        × NamesAsBefore at (row_seen c.args.row.row) kept.last))
+    × NamesAsBefore at (row_seen c.args.row.row) kept.last))
     c.as_str.ensures.value c.lists_if_alike-lists.ensures in
     record {
       stage = stage-more world path said old new more first.stage after knows (directories (files_in world)) far.stage;
@@ -39,7 +39,7 @@ returns-in_ok-know-in-Listed c = λ world old new walk more.
     let after = c.know-in-Listed.new.self in
     let knows = c.in_ok-know-in-Listed.ensures in
     let alike = subst (λ (at : List ℕ). IfSome c.if_alike-last.result (λ (kept : LastIndex). (next.last ≡ Some kept)
-        × NamesAsBefore at (row_seen c.args.row.row) kept))
+    × NamesAsBefore at (row_seen c.args.row.row) kept))
     c.as_str-in-Listed.ensures.value c.if_alike-last.ensures in
     record {
       stage = stage-more world path said old new more next.stage after knows (listed_paths world) far.stage;

@@ -11,7 +11,7 @@ use Rattle.index_store.proofs.store.IndexStore.open_in_memory.Goals as goal
 pub returns-in-Ok : goal.returns-in-Ok
 returns-in-Ok c path =
     ap (option_map value_stored) (all_found (state_of c.in-Ok.conn).now.trees path
-        ∙ ap (λ (rows : Rows). all_of rows path) c.in-Ok.ensures.are)
+    ∙ ap (λ (rows : Rows). all_of rows path) c.in-Ok.ensures.are)
 
 pub invariant_of-result : goal.invariant_of-result
 invariant_of-result c = (

@@ -6,4 +6,4 @@ pub returns : goal.returns
 returns c =
     with-parts _ _ _ _ (ap (λ view. view.0) c.self.view_is)
     (texts_of_removed c.self.inside.variables c.remove.new.self c.args.self.now.1 c.args.name.now (ap (λ view. view.1) c.self.view_is)
-        c.remove.ensures.updates)
+    c.remove.ensures.updates)

@@ -8,5 +8,5 @@ use Rattle.mk_files.proofs.memory_files.MemoryFiles.get.Goals as goal
 pub returns : goal.returns
 returns c =
     c.get.ensures.value ∙ get-view c.self.inside.files c.args.self.now.files c.as_str.result.now
-        (ap (λ (held : Holding). held.files) c.self.view_is)
+    (ap (λ (held : Holding). held.files) c.self.view_is)
     ∙ ap (finite.get c.args.self.now.files) c.as_str.ensures.text

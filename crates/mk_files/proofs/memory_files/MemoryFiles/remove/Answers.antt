@@ -9,7 +9,7 @@ pub returns-clause-was_there : goal.returns-clause-was_there
 returns-clause-was_there c =
     c.is_some.ensures
     ∙ ap is_some (c.remove.ensures.value ∙ get-view c.self.inside.files c.args.self.now.files c.as_str.result.now
-        (ap (λ (held : Holding). held.files) c.self.view_is)
+    (ap (λ (held : Holding). held.files) c.self.view_is)
     ∙ ap (finite.get c.args.self.now.files) c.as_str.ensures.text)
 
 pub returns-clause-removed : goal.returns-clause-removed

@@ -9,7 +9,7 @@ pub returns-clause-answer : goal.returns-clause-answer
 returns-clause-answer c = (
   c.contains_key.ensures
       ∙ ap is_some (get-view c.self.inside.files c.args.self.now.files c.as_str.result.now
-          (ap (λ (held : Holding). held.files) c.self.view_is)
+      (ap (λ (held : Holding). held.files) c.self.view_is)
       ∙ ap (finite.get c.args.self.now.files) c.as_str.ensures.text),
   refl,
 )

@@ -6,8 +6,11 @@ use Rattle.mk_glob.proofs.StepLemmas.{fits-pattern_over, fits-word_over, fits-re
 use Rattle.mk_glob.proofs.matcher.Rest.step.Goals as goal
 
 pub returns-in-None-clause-step : goal.returns-in-None-clause-step
-returns-in-None-clause-step c = (signs_of-empty c.args.self.pattern.now c.in_default.ensures, chars-empty
-    c.args.self.word.now c.in-None.ensures)
+returns-in-None-clause-step c = (
+  signs_of-empty c.args.self.pattern.now c.in_default.ensures,
+  chars-empty
+      c.args.self.word.now c.in-None.ensures,
+)
 
 pub returns-in-Some-first_char-clause-step : goal.returns-in-Some-first_char-clause-step
 returns-in-Some-first_char-clause-step c =

@@ -18,8 +18,10 @@ fits f g xs ys index below =
 pub invariant_of-result : goal.invariant_of-result
 invariant_of-result c =
     let iterations = c.args.iterations.value in
-    record { inside = fits string_bytes (span_text (string_bytes iterations.text)) iterations.names.items iterations.words.items
-        c.args.index c.requires }
+    record {
+      inside = fits string_bytes (span_text (string_bytes iterations.text)) iterations.names.items iterations.words.items
+          c.args.index c.requires;
+    }
 
 pub returns : goal.returns
 returns c =
@@ -30,4 +32,4 @@ returns c =
     iteration-at (length words / length names) c.args.index names words below
     ∙ ap (λ n. Some (zip names (drop (c.args.index * n) words))) (length-map iterations.names.items string_bytes)
     ∙ ap (λ l. Some (zip names l))
-        (drop-map (span_text (string_bytes iterations.text)) (c.args.index * length iterations.names.items) iterations.words.items)
+    (drop-map (span_text (string_bytes iterations.text)) (c.args.index * length iterations.names.items) iterations.words.items)

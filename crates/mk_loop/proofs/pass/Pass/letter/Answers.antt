@@ -27,14 +27,14 @@ returns-in_err-pay-in-Some-clause-goes c =
     let name = take 1 (drop 1 (drop at line)) in
     let written = take 2 (drop at line) in
     let named : word_named words name ≡ Some c.in-Some.word.now = letter-word words line at c.range.result.now (Some c.in-Some.word.now)
-        letter c.range.ensures.value c.in-Some.ensures in
+    letter c.range.ensures.value c.in-Some.ensures in
     let p = err_from_is_err_and c.from_residual.result c.from_residual.ensures.1 in
     rw (p.1, p.2)
     (λ left stands.
     pass-unpaid words variables line pass left (Reference written name None) (drop (at + 2) line) written name None c.in-Some.word.now
-        c.args.budget.now c.pay.new.self (pure.Fault c.in_err-pay-in-Some.field-0.0) refl named
+    c.args.budget.now c.pay.new.self (pure.Fault c.in_err-pay-in-Some.field-0.0) refl named
     (begin words variables line pass left (Reference written name None) (at + 2) (omega arith)
-        (letter-at-place line at c.requires.room c.requires.opens) c.requires.stays stands)
+    (letter-at-place line at c.requires.room c.requires.opens) c.requires.stays stands)
     c.in_err-pay-in-Some.ensures.gives)
 
 pub returns-in-None-clause-goes : goal.returns-in-None-clause-goes
@@ -49,10 +49,10 @@ returns-in-None-clause-goes c = λ left stands.
     let written = take 2 (drop at line) in
     let m = c.args.budget.now in
     let named : word_named words name ≡ None = letter-word words line at c.range.result.now None letter
-        c.range.ensures.value c.in-None.ensures in
+    c.range.ensures.value c.in-None.ensures in
     subst (λ next. ContinuesPass words variables line pass left m (Ok next) m) (sym c.on.ensures)
     (pass-on words variables line pass (at + 2) (Reference written name None) left m c.requires.placed (omega arith)
-        (letter-at-place line at c.requires.room c.requires.opens) c.requires.stays
+    (letter-at-place line at c.requires.room c.requires.opens) c.requires.stays
     (λ before. ap (λ found. put_reference variables (put words variables) before written None found m) named
     ∙ ap (λ l. stays (put words variables) before l m) letter.written ∙ stays-letter words variables 36 letter.letter before m
     ∙ ap (λ l. Ok (as_written before l, m)) (sym letter.written))
@@ -79,11 +79,11 @@ returns-in_ok-pay-in-Some-clause-goes c = λ left stands.
     let name = take 1 (drop 1 (drop at line)) in
     let written = take 2 (drop at line) in
     let named : word_named words name ≡ Some c.in-Some.word.now = letter-word words line at c.range.result.now (Some c.in-Some.word.now)
-        letter c.range.ensures.value c.in-Some.ensures in
+    letter c.range.ensures.value c.in-Some.ensures in
     pass-put words variables line pass (at + 2) left (Reference written name None) written name c.in-Some.word.now c.args.budget.now
-        c.pay.new.self tt c.put.result refl named c.in_ok-pay-in-Some.ensures.gives
+    c.pay.new.self tt c.put.result refl named c.in_ok-pay-in-Some.ensures.gives
     (begin words variables line pass left (Reference written name None) (at + 2) (omega arith)
-        (letter-at-place line at c.requires.room c.requires.opens) c.requires.stays stands)
+    (letter-at-place line at c.requires.room c.requires.opens) c.requires.stays stands)
     (c.put.ensures.gives c.pay.new.self) c.put.ensures.around c.put.ensures.copied c.put.ensures.at stands
 
 pub returns-in_ok-pay-in-Some-clause-paid : goal.returns-in_ok-pay-in-Some-clause-paid

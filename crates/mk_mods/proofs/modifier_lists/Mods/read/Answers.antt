@@ -10,7 +10,7 @@ pub returns-clause-ok : goal.returns-clause-ok
 unfolding modifiers_of
 returns-clause-ok c =
     ap (option_and_then (modifiers_in c.args.profile)) c.in_ok-marks.ensures.ok
-        ∙ ap (λ marks. modifiers_in c.args.profile (map shown_mark marks)) (sym c.deref.ensures.value) ∙ c.in_ok-modifiers.ensures.ok
+    ∙ ap (λ marks. modifiers_in c.args.profile (map shown_mark marks)) (sym c.deref.ensures.value) ∙ c.in_ok-modifiers.ensures.ok
 
 pub returns-in_err-marks-clause-err : goal.returns-in_err-marks-clause-err
 returns-in_err-marks-clause-err c =

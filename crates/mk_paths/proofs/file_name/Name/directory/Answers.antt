@@ -26,7 +26,7 @@ last-slash name k within slash later =
 no-slash : (name : List ℕ) → ((i : ℕ) → i < length name → get_or name i 0 ≢ 47) → directory_of name ≡ []
 no-slash name none =
     cut_at name 0 (suffix_len_is (λ b. not (nat_eq b 47)) name 0 0 (omega arith)
-        (λ i low high. ap not (ne_eqb (get_or name i 0) 47 (none i high))) (λ some. absurd (omega arith))) (omega arith)
+    (λ i low high. ap not (ne_eqb (get_or name i 0) 47 (none i high))) (λ some. absurd (omega arith))) (omega arith)
 
 pub returns-in-Some : goal.returns-in-Some
 returns-in-Some c =
@@ -34,7 +34,7 @@ returns-in-Some c =
     let found = rfind_char 47 text (Some c.in-Some.end) c.in-Some.ensures.cases (lit< tt) in
     let end : c.in-Some.end - 0 ≡ c.in-Some.end = omega arith in
     c.range.ensures.value ∙ ap (λ n. take n text) end ∙ sym (last-slash text c.in-Some.end found.0 found.1 found.2)
-        ∙ ap directory_of c.as_str-text.ensures.text
+    ∙ ap directory_of c.as_str-text.ensures.text
 
 pub returns-in-None : goal.returns-in-None
 returns-in-None c =

@@ -16,8 +16,8 @@ overflow_sub-deref g c =
     let site = c.args.site.now.value in
     let placed = c.here-here.ensures.place files ∙ ap (λ site. place_at files c.args.self.now.makefile (site_of site)) c.deref.ensures in
     let some : site.levels ≡ 0 → ⊥ = may-open c.here-here.result.levels site.levels c.args.self.now.budget c.open_line.new.budget
-        c.in_ok-open_line.field-0 c.in-Some.included (ap (λ (place : Place). place.levels) placed) c.in-Some.is
-        c.in_ok-open_line.ensures.opens in
+    c.in_ok-open_line.field-0 c.in-Some.included (ap (λ (place : Place). place.levels) placed) c.in-Some.is
+    c.in_ok-open_line.ensures.opens in
     let same : c.deref-in-Some.result.now.levels ≡ site.levels = ap (λ site. site.levels) c.deref-in-Some.ensures in
     omega (arith, some, same)
 
@@ -31,7 +31,7 @@ returns-in_err-open_line-clause-gives g c =
     (c.here-here.ensures.place files ∙ ap (λ site. place_at files c.args.self.now.makefile (site_of site)) c.deref.ensures)
     (c.here-here.ensures.loops ∙ ap (λ site. (site_of site).loops) c.deref.ensures)
     c.args.line.now c.args.self.now.state (account c.args.self.now.budget (view c.args.files.now)) c.in_err-open_line.field-0.0
-        (account c.open_line.new.budget (view c.open_line.new.files)) c.in_err-open_line.ensures.gives)
+    (account c.open_line.new.budget (view c.open_line.new.files)) c.in_err-open_line.ensures.gives)
 
 pub returns-in_ok-of_line-in-None-clause-gives : goal.returns-in_ok-of_line-in-None-clause-gives
 returns-in_ok-of_line-in-None-clause-gives g c =
@@ -44,7 +44,7 @@ returns-in_ok-of_line-in-None-clause-gives g c =
     (c.here-here.ensures.place files ∙ ap (λ site. place_at files c.args.self.now.makefile (site_of site)) c.deref.ensures)
     (c.here-here.ensures.loops ∙ ap (λ site. (site_of site).loops) c.deref.ensures)
     c.args.line.now c.args.self.now.state (account c.args.self.now.budget (view c.args.files.now)) new end
-        (inner_frames c.in_ok-of_line-in-None.field-0)
+    (inner_frames c.in_ok-of_line-in-None.field-0)
     (found-some _ new c.in_ok-open_line.field-0 end None c.in-None.is c.in_ok-open_line.ensures.gives)
     (c.in_ok-of_line-in-None.ensures
     ∙ ap (λ line. modules_at site line (c.may_ask_modules-may_ask.result && new.shared_asked)) c.line.ensures
@@ -63,12 +63,12 @@ returns-in_ok-of_line-in-Some-clause-gives g c =
     line-reads c.here-here.result files c.args.self.now.makefile site c.here-here.result.loops.now placed
     (c.here-here.ensures.loops ∙ ap (λ site. (site_of site).loops) c.deref.ensures)
     c.args.line.now c.args.self.now.state (account c.args.self.now.budget (view c.args.files.now)) new (included_file included) end frame
-        (inner_frames c.in_ok-of_line-in-Some.field-0)
+    (inner_frames c.in_ok-of_line-in-Some.field-0)
     (found-some _ new c.in_ok-open_line.field-0 end (Some included) c.in-Some.is c.in_ok-open_line.ensures.gives)
     (may-open c.here-here.result.levels site.levels c.args.self.now.budget c.open_line.new.budget c.in_ok-open_line.field-0 included
-        (ap (λ (place : Place). place.levels) placed) c.in-Some.is c.in_ok-open_line.ensures.opens)
+    (ap (λ (place : Place). place.levels) placed) c.in-Some.is c.in_ok-open_line.ensures.opens)
     (subst (λ levels. read_lines included.name (levels - 1) (parsed included.content) new end ≡ Ok ((new, Some frame), end))
-        (ap (λ site. site.levels) c.deref-in-Some.ensures) (c.in_ok-lines-in-Some.ensures.gives new end))
+    (ap (λ site. site.levels) c.deref-in-Some.ensures) (c.in_ok-lines-in-Some.ensures.gives new end))
     (c.in_ok-of_line-in-Some.ensures
     ∙ ap (λ line. frame ∷ modules_at site line (c.may_ask_modules-may_ask.result && new.shared_asked)) c.line-in-Some.ensures
     ∙ ap (λ may. frame ∷ modules_at site c.args.line.now.line (may && new.shared_asked)) c.may_ask_modules-may_ask.ensures)
@@ -90,6 +90,6 @@ returns-in_err-lines-in-Some-clause-gives g c =
     c.args.line.now c.args.self.now.state (account c.args.self.now.budget (view c.args.files.now)) new (included_file included) end stop
     (found-some _ new c.in_ok-open_line.field-0 end (Some included) c.in-Some.is c.in_ok-open_line.ensures.gives)
     (may-open c.here-here.result.levels site.levels c.args.self.now.budget c.open_line.new.budget c.in_ok-open_line.field-0 included
-        (ap (λ (place : Place). place.levels) placed) c.in-Some.is c.in_ok-open_line.ensures.opens)
+    (ap (λ (place : Place). place.levels) placed) c.in-Some.is c.in_ok-open_line.ensures.opens)
     (subst (λ levels. StopsPurelyAt stop end (read_lines included.name (levels - 1) (parsed included.content) new end))
-        (ap (λ site. site.levels) c.deref-in-Some.ensures) (c.in_err-lines-in-Some.ensures.gives new end)))
+    (ap (λ site. site.levels) c.deref-in-Some.ensures) (c.in_err-lines-in-Some.ensures.gives new end)))

@@ -16,7 +16,7 @@ returns-in_err-held-in-Choice-clause-gives g c =
     (c.here-here.ensures.place files ∙ ap (λ site. place_at files c.args.self.now.makefile (site_of site)) c.deref.ensures)
     (c.here-here.ensures.loops ∙ ap (λ site. (site_of site).loops) c.deref.ensures)
     c.args.node.now c.in-Choice.head c.in-Choice.body c.in-Choice.branches c.in-Choice.otherwise c.in-Choice.is c.args.self.now.state
-        (account c.args.self.now.budget (view c.args.files.now))
+    (account c.args.self.now.budget (view c.args.files.now))
     c.in_err-held-in-Choice.field-0.0 (account c.holds.new.budget (view c.holds.new.files)) c.in_err-held-in-Choice.ensures.gives)
 
 pub returns-in_ok-clone-in-Choice-clause-gives : goal.returns-in_ok-clone-in-Choice-clause-gives
@@ -27,11 +27,11 @@ returns-in_ok-clone-in-Choice-clause-gives g c =
     (c.here-here.ensures.place files ∙ ap (λ site. place_at files c.args.self.now.makefile (site_of site)) c.deref.ensures)
     (c.here-here.ensures.loops ∙ ap (λ site. (site_of site).loops) c.deref.ensures)
     c.args.node.now c.in-Choice.head c.in-Choice.body c.in-Choice.branches c.in-Choice.otherwise c.in-Choice.is c.args.self.now.state
-        (account c.args.self.now.budget (view c.args.files.now))
+    (account c.args.self.now.budget (view c.args.files.now))
     c.in_ok-held-in-Choice.held (account c.holds.new.budget (view c.holds.new.files)) (inner_frames c.of_block.result)
-        c.in_ok-held-in-Choice.ensures.gives
+    c.in_ok-held-in-Choice.ensures.gives
     (ap (λ frame. frame ∷ []) (sym (c.in_ok-to_do-in-Choice.ensures (site_of c.args.site.now.value))
-        ∙ ap (λ site. frame_at (site_of site) c.in_ok-to_do-in-Choice.to_do) (sym c.in_ok-clone-in-Choice.ensures.cases))
+    ∙ ap (λ site. frame_at (site_of site) c.in_ok-to_do-in-Choice.to_do) (sym c.in_ok-clone-in-Choice.ensures.cases))
     ∙ sym c.of_block.ensures)
 
 pub returns-in_err-iterations-in-Loop-clause-gives : goal.returns-in_err-iterations-in-Loop-clause-gives

@@ -16,8 +16,8 @@ returns-in_err-step_iterations-in-Iterations-clause-gives g c =
     let p = err_from_is_err_and c.from_residual.result c.from_residual.ensures.1 in
     rw (p.1, p.2)
     (subst (λ to_do. StopsAt (stop_of_pure stop) end
-        (advance old.files c.args.self.now.makefile (frame_at (site_of c.args.frame.site.value) to_do)
-        (frames_of c.args.self.now.frames.items) c.args.self.now.state (account c.args.self.now.budget old)))
+    (advance old.files c.args.self.now.makefile (frame_at (site_of c.args.frame.site.value) to_do)
+    (frames_of c.args.self.now.frames.items) c.args.self.now.state (account c.args.self.now.budget old)))
     (sym c.in-Iterations.is) (stops-purely stop end _ (c.in_err-step_iterations-in-Iterations.ensures.gives old.files old.log)))
 
 pub returns-in_ok-step_iterations-in-Iterations-clause-gives : goal.returns-in_ok-step_iterations-in-Iterations-clause-gives
@@ -26,8 +26,8 @@ returns-in_ok-step_iterations-in-Iterations-clause-gives g c =
     let old = view c.args.files.now in
     let new = c.step_iterations.new.self in
     subst (λ to_do. advance old.files c.args.self.now.makefile (frame_at (site_of c.args.frame.site.value) to_do)
-        (frames_of c.args.self.now.frames.items) c.args.self.now.state (account c.args.self.now.budget old) ≡ Ok
-        ((new.state, frames_of new.frames.items), account new.budget old))
+    (frames_of c.args.self.now.frames.items) c.args.self.now.state (account c.args.self.now.budget old) ≡ Ok
+    ((new.state, frames_of new.frames.items), account new.budget old))
     (sym c.in-Iterations.is) (c.in_ok-step_iterations-in-Iterations.ensures.gives old.files old.log)
 
 pub returns-in_err-step_modules-in-Modules-clause-gives : goal.returns-in_err-step_modules-in-Modules-clause-gives
@@ -37,11 +37,11 @@ returns-in_err-step_modules-in-Modules-clause-gives g c =
     let end = account c.step_modules.new.self.budget old in
     let stop = c.in_err-step_modules-in-Modules.field-0.0 in
     let p = err_from_is_err_and c.from_residual-in_err-step_modules-in-Modules.result
-        c.from_residual-in_err-step_modules-in-Modules.ensures.1 in
+    c.from_residual-in_err-step_modules-in-Modules.ensures.1 in
     rw (p.1, p.2)
     (subst (λ to_do. StopsAt (stop_of_pure stop) end
-        (advance old.files c.args.self.now.makefile (frame_at (site_of c.args.frame.site.value) to_do)
-        (frames_of c.args.self.now.frames.items) c.args.self.now.state (account c.args.self.now.budget old)))
+    (advance old.files c.args.self.now.makefile (frame_at (site_of c.args.frame.site.value) to_do)
+    (frames_of c.args.self.now.frames.items) c.args.self.now.state (account c.args.self.now.budget old)))
     (sym c.in-Modules.is) (stops-purely stop end _ (c.in_err-step_modules-in-Modules.ensures.gives old.files old.log)))
 
 pub returns-in_ok-step_modules-in-Modules-clause-gives : goal.returns-in_ok-step_modules-in-Modules-clause-gives
@@ -50,6 +50,6 @@ returns-in_ok-step_modules-in-Modules-clause-gives g c =
     let old = view c.args.files.now in
     let new = c.step_modules.new.self in
     subst (λ to_do. advance old.files c.args.self.now.makefile (frame_at (site_of c.args.frame.site.value) to_do)
-        (frames_of c.args.self.now.frames.items) c.args.self.now.state (account c.args.self.now.budget old) ≡ Ok
-        ((new.state, frames_of new.frames.items), account new.budget old))
+    (frames_of c.args.self.now.frames.items) c.args.self.now.state (account c.args.self.now.budget old) ≡ Ok
+    ((new.state, frames_of new.frames.items), account new.budget old))
     (sym c.in-Modules.is) (c.in_ok-step_modules-in-Modules.ensures.gives old.files old.log)

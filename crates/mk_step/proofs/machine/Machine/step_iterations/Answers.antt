@@ -35,17 +35,17 @@ returns-clause-gives c = λ files log.
     c.begin_iteration.new.budget _ c.in_ok-begin_iteration.ensures.gives
     (let iteration = get_or (iterations_in c.args.left.iterations.value) c.args.left.next [] in
     let outer = onto c.args.self.now.frames.items c.push.new.self.items
-        (record { site = c.args.site; to_do = Iterations (record c.args.left { next = c.args.left.next + 1 }) }) _
-        c.in_ok-push.ensures.items refl in
+    (record { site = c.args.site; to_do = Iterations (record c.args.left { next = c.args.left.next + 1 }) }) _
+    c.in_ok-push.ensures.items refl in
     let there : site_of c.in_ok-inside.field-0.value ≡ record (site_of c.args.site.value)
-        { loops = inside_iteration (site_of c.args.site.value).loops iteration } =
+    { loops = inside_iteration (site_of c.args.site.value).loops iteration } =
     c.in_ok-inside.ensures iteration (slice_get-get_or (iterations_in c.args.left.iterations.value) c.args.left.next [] c.requires)
-        ∙ ap (λ site. record (site_of site) { loops = inside_iteration (site_of site).loops iteration }) c.deref-3.ensures in
+    ∙ ap (λ site. record (site_of site) { loops = inside_iteration (site_of site).loops iteration }) c.deref-3.ensures in
     ap (λ frames. machine.Lines
-        (record (site_of c.args.site.value) { loops = inside_iteration (site_of c.args.site.value).loops iteration })
-        (block_of c.args.left.body.value.items) ∷ frames) outer
+    (record (site_of c.args.site.value) { loops = inside_iteration (site_of c.args.site.value).loops iteration })
+    (block_of c.args.left.body.value.items) ∷ frames) outer
     ∙ onto c.push.new.self.items c.push-2.new.self.items
-        (record { site = c.in_ok-inside.field-0; to_do = Lines (record { block = c.in_ok-clone.field-0; next = 0 }) }) _
-        c.in_ok-push-2.ensures.items
+    (record { site = c.in_ok-inside.field-0; to_do = Lines (record { block = c.in_ok-clone.field-0; next = 0 }) }) _
+    c.in_ok-push-2.ensures.items
     (ap (λ site. machine.Lines site (block_of c.args.left.body.value.items)) (sym there)
-        ∙ ap (λ body. machine.Lines (site_of c.in_ok-inside.field-0.value) (block_of body.items)) (sym c.in_ok-clone.ensures.cases)))
+    ∙ ap (λ body. machine.Lines (site_of c.in_ok-inside.field-0.value) (block_of body.items)) (sym c.in_ok-clone.ensures.cases)))

@@ -21,7 +21,7 @@ returns-in_err-found-clause-gives g c =
     (search-stops c.here-here.result files c.args.self.now.makefile (site_of c.args.site.value)
     (c.here-here.ensures.place files ∙ ap (λ site. place_at files c.args.self.now.makefile (site_of site)) c.deref.ensures)
     (frames_of c.args.self.now.frames.items) c.args.self.now.state (account c.args.self.now.budget (view c.args.files.now))
-        c.args.search.line (words_left c.args.search)
+    c.args.search.line (words_left c.args.search)
     c.in_err-found.field-0.0 (account c.next_module.new.budget (view c.next_module.new.files)) c.in_err-found.ensures.gives)
 
 pub overflow_sub-levels : goal.overflow_sub-levels
@@ -30,7 +30,7 @@ overflow_sub-levels g c =
     let site = c.args.site.value in
     let placed = c.here-here.ensures.place files ∙ ap (λ site. place_at files c.args.self.now.makefile (site_of site)) c.deref.ensures in
     let some : site.levels ≡ 0 → ⊥ = may-search c.here-here.result.levels site.levels c.in_ok-found.found c.in-Some.included
-        (ap (λ (place : Place). place.levels) placed) c.in-Some.is c.in_ok-found.ensures.opens in
+    (ap (λ (place : Place). place.levels) placed) c.in-Some.is c.in_ok-found.ensures.opens in
     let same : c.deref-2.result.now.levels ≡ site.levels = ap (λ site. site.levels) c.deref-2.ensures in
     omega (arith, some, same)
 
@@ -43,11 +43,11 @@ returns-in_ok-push-in-None-clause-gives g c =
     search-ends c.here-here.result files c.args.self.now.makefile site
     (c.here-here.ensures.place files ∙ ap (λ site. place_at files c.args.self.now.makefile (site_of site)) c.deref.ensures)
     (frames_of c.args.self.now.frames.items) c.args.self.now.state (account c.args.self.now.budget (view c.args.files.now))
-        c.args.search.line (words_left c.args.search)
+    c.args.search.line (words_left c.args.search)
     (words_left search) (account c.next_module.new.budget (view c.next_module.new.files)) c.in_ok-found.found c.in_ok-found.ensures.gives
     (frames_of c.push.new.self.items) c.in-None.is
     (onto c.args.self.now.frames.items c.push.new.self.items (record { site = c.args.site; to_do = to_dos.Searches search })
-        (machine.Searches site c.args.search.line (words_left search)) c.in_ok-push-in-None.ensures.items
+    (machine.Searches site c.args.search.line (words_left search)) c.in_ok-push-in-None.ensures.items
     (ap (λ line. machine.Searches site line (words_left search)) (sym c.in_ok-found.ensures.line)))
 
 pub returns-in_ok-push-in-Some-2-clause-gives : goal.returns-in_ok-push-in-Some-2-clause-gives
@@ -66,16 +66,16 @@ returns-in_ok-push-in-Some-2-clause-gives g c =
     (words_left c.args.search)
     (words_left search) end c.in_ok-found.found c.in_ok-found.ensures.gives included c.in-Some.is
     (may-search c.here-here.result.levels site.levels c.in_ok-found.found included (ap (λ (place : Place). place.levels) placed)
-        c.in-Some.is c.in_ok-found.ensures.opens)
+    c.in-Some.is c.in_ok-found.ensures.opens)
     frame (frames_of c.push-in-Some-2.new.self.items)
     (subst (λ levels. read_lines included.name (levels - 1) (parsed included.content) s end ≡ Ok ((s, Some frame), end))
-        (ap (λ site. site.levels) c.deref-2.ensures) (c.in_ok-lines-in-Some.ensures.gives s end))
+    (ap (λ site. site.levels) c.deref-2.ensures) (c.in_ok-lines-in-Some.ensures.gives s end))
     (ap (λ frames. frame ∷ frames)
     (onto c.args.self.now.frames.items c.push-in-Some.new.self.items (record { site = c.args.site; to_do = to_dos.Searches search })
-        (machine.Searches site c.args.search.line (words_left search)) c.in_ok-push-in-Some.ensures.items
+    (machine.Searches site c.args.search.line (words_left search)) c.in_ok-push-in-Some.ensures.items
     (ap (λ line. machine.Searches site line (words_left search)) (sym c.in_ok-found.ensures.line)))
     ∙ onto c.push-in-Some.new.self.items c.push-in-Some-2.new.self.items c.in_ok-lines-in-Some.lines frame
-        c.in_ok-push-in-Some-2.ensures.items refl)
+    c.in_ok-push-in-Some-2.ensures.items refl)
 
 pub returns-in_err-lines-in-Some-clause-gives : goal.returns-in_err-lines-in-Some-clause-gives
 returns-in_err-lines-in-Some-clause-gives g c =
@@ -94,6 +94,6 @@ returns-in_err-lines-in-Some-clause-gives g c =
     (words_left c.args.search)
     (words_left c.next_module.new.self) end c.in_ok-found.found c.in_ok-found.ensures.gives included c.in-Some.is
     (may-search c.here-here.result.levels site.levels c.in_ok-found.found included (ap (λ (place : Place). place.levels) placed)
-        c.in-Some.is c.in_ok-found.ensures.opens)
+    c.in-Some.is c.in_ok-found.ensures.opens)
     stop (subst (λ levels. StopsPurelyAt stop end (read_lines included.name (levels - 1) (parsed included.content) s end))
-        (ap (λ site. site.levels) c.deref-2.ensures) (c.in_err-lines-in-Some.ensures.gives s end)))
+    (ap (λ site. site.levels) c.deref-2.ensures) (c.in_err-lines-in-Some.ensures.gives s end)))

@@ -10,4 +10,4 @@ invariant-loop-flavor g l =
     IsPlainFormatter l.fn.f
     → HasWritten g.W.Write.write_str_gives l.fn.f
     (name_text (record { stem = l.self.stem; version = l.self.version; flavors = map string_bytes (take l.flavor-index l.flavor-items) }))
-        l.f
+    l.f

@@ -9,7 +9,11 @@ pub returns-in-Default : goal.returns-in-Default
 unfolding canonical
 returns-in-Default c =
     subst (λ text. IfOk c.from_str.result (λ made. string_bytes made ≡ text)) (c.as_str.ensures.value ∙ sym (append-nil _)
-        ∙ ap (λ text. text ++ []) (sym (append-nil _))
-    ∙ ap (λ flavors. canonical (record { directory = string_bytes c.self.inside.directory; flavors = flavors_seen flavors; subpackage =
-        None })) (sym c.in-Default.is)
+    ∙ ap (λ text. text ++ []) (sym (append-nil _))
+    ∙ ap (λ flavors. canonical (record {
+      directory = string_bytes c.self.inside.directory;
+      flavors = flavors_seen flavors;
+      subpackage =
+          None;
+    })) (sym c.in-Default.is)
     ∙ ap (λ path. canonical (without_subpackage path)) c.self.view_is) c.from_str.ensures.ok

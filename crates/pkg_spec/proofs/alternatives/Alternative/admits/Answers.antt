@@ -20,8 +20,8 @@ regrouped false b c = refl
 
 after_stem : (alternative : Alternative) (name : NameParts) (stem : Bool) → with_stem (string_bytes alternative.stem) name ≡ stem
     → set_of_alternative (alternative_seen alternative) name ≡
-        (stem && (list_all (λ comparison. meeting (comparison_seen comparison) name) alternative.comparisons.items &&
-        admits_flavors alternative name))
+    (stem && (list_all (λ comparison. meeting (comparison_seen comparison) name) alternative.comparisons.items &&
+    admits_flavors alternative name))
 after_stem alternative name stem is =
     let in_set : NameSet → Bool = λ s. s name in
     let comparisons = map meeting (map comparison_seen alternative.comparisons.items) in
@@ -29,17 +29,17 @@ after_stem alternative name stem is =
     let forbidden = map lacking_flavor (map string_bytes alternative.forbidden.items) in
     ap (λ b. b && list_all in_set (comparisons ++ wanted ++ forbidden)) is
     ∙ ap (λ b. stem && b) (list_all-append in_set (comparisons ++ wanted) forbidden ∙ ap (λ b. b && list_all in_set forbidden)
-        (list_all-append in_set comparisons wanted)
+    (list_all-append in_set comparisons wanted)
     ∙ regrouped (list_all in_set comparisons) (list_all in_set wanted) (list_all in_set forbidden)
     ∙ ap (λ b. b && (list_all in_set wanted && list_all in_set forbidden)) (each meeting comparison_seen name alternative.comparisons.items)
     ∙ ap (λ b. list_all (λ comparison. meeting (comparison_seen comparison) name) alternative.comparisons.items &&
-        (b && list_all in_set forbidden)) (each having string_bytes name alternative.wanted.items)
+    (b && list_all in_set forbidden)) (each having string_bytes name alternative.wanted.items)
     ∙ ap (λ b. list_all (λ comparison. meeting (comparison_seen comparison) name) alternative.comparisons.items &&
-        (list_all (λ flavor. having (string_bytes flavor) name) alternative.wanted.items && b))
-        (each lacking_flavor string_bytes name alternative.forbidden.items))
+    (list_all (λ flavor. having (string_bytes flavor) name) alternative.wanted.items && b))
+    (each lacking_flavor string_bytes name alternative.forbidden.items))
 
 pub returns-then-fits_stem : goal.returns-then-fits_stem
 returns-then-fits_stem c =
     c.admits_after_stem.ensures
-        ∙ sym (after_stem c.args.self.now c.args.name.now true (ap (λ stem. with_stem stem c.args.name.now) (sym c.as_str.ensures.value)
-        ∙ sym c.fits_stem.ensures ∙ c.if-fits_stem.true))
+    ∙ sym (after_stem c.args.self.now c.args.name.now true (ap (λ stem. with_stem stem c.args.name.now) (sym c.as_str.ensures.value)
+    ∙ sym c.fits_stem.ensures ∙ c.if-fits_stem.true))

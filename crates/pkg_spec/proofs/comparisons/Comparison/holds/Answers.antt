@@ -8,4 +8,4 @@ use Rattle.pkg_spec.proofs.comparisons.Comparison.holds.Goals as goal
 pub returns-in-Equals : goal.returns-in-Equals
 returns-in-Equals c =
     c.eq.ensures ∙ version_cmp_ties c.args.version.now c.args.self.now.version
-        ∙ sym (ap (λ sign. allows_ordering sign (version_cmp c.args.version.now c.args.self.now.version)) c.in-Equals.is)
+    ∙ sym (ap (λ sign. allows_ordering sign (version_cmp c.args.version.now c.args.self.now.version)) c.in-Equals.is)

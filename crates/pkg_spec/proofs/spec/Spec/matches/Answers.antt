@@ -16,6 +16,6 @@ one name (alternative ∷ alternatives) = ap (λ b. set_of_alternative (alternat
 pub returns : goal.returns
 returns c =
     c.one_admits.ensures ∙ ap (list_any (λ alternative. set_of_alternative (alternative_seen alternative) c.args.name.now))
-        c.deref.ensures.value ∙ one c.args.name.now c.self.inside.alternatives.items
+    c.deref.ensures.value ∙ one c.args.name.now c.self.inside.alternatives.items
     ∙ sym (ap (λ reading. set_of_reading reading c.args.name.now) c.self.invariant.read)
     ∙ ap (λ text. admitted_by text c.args.name.now) c.self.view_is

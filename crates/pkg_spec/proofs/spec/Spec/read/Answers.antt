@@ -12,7 +12,7 @@ returns-then-reading-clause-no_stem c =
 pub returns-then-reading-2-clause-bad_version : goal.returns-then-reading-2-clause-bad_version
 returns-then-reading-2-clause-bad_version c =
     λ _. is_bad_version c.args.text.now _ _ (ap now_all c.deref.ensures.value ∙ c.in_ok-parts.ensures) c.in_ok-reading.ensures
-        c.if-reading.false c.if-reading-2.true
+    c.if-reading.false c.if-reading-2.true
 
 pub returns-then-reading-3-clause-empty : goal.returns-then-reading-3-clause-empty
 returns-then-reading-3-clause-empty c =
@@ -23,10 +23,10 @@ pub invariant_of-result : goal.invariant_of-result
 invariant_of-result c = record {
   read = ap spec_of c.in_ok-from_str.ensures.ok
       ∙ is_spec c.args.text.now _ _ (ap now_all c.deref.ensures.value ∙ c.in_ok-parts.ensures) c.in_ok-reading.ensures c.if-reading.false
-          c.if-reading-2.false c.if-reading-3.false;
+      c.if-reading-2.false c.if-reading-3.false;
 }
 
 pub returns-clause-ok : goal.returns-clause-ok
 returns-clause-ok c = gives_alternatives _ _ (ap spec_of c.in_ok-from_str.ensures.ok
     ∙ is_spec c.args.text.now _ _ (ap now_all c.deref.ensures.value ∙ c.in_ok-parts.ensures) c.in_ok-reading.ensures c.if-reading.false
-        c.if-reading-2.false c.if-reading-3.false)
+    c.if-reading-2.false c.if-reading-3.false)

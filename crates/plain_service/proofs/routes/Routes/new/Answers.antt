@@ -20,39 +20,93 @@ add-requires-4 c = rw (c.in_ok-add-3.ensures.1, c.in_ok-add-2.ensures.1, c.in_ok
 
 pub add-requires-5 : goal.add-requires-5
 unfolding matchit_on_literals
-add-requires-5 c = rw (c.in_ok-add-4.ensures.1, c.in_ok-add-3.ensures.1, c.in_ok-add-2.ensures.1, c.in_ok-add.ensures.1,
-    c.new-router.ensures) (_, refl, refl)
+add-requires-5 c = rw (
+  c.in_ok-add-4.ensures.1,
+  c.in_ok-add-3.ensures.1,
+  c.in_ok-add-2.ensures.1,
+  c.in_ok-add.ensures.1,
+  c.new-router.ensures,
+) (_, refl, refl)
 
 pub add-requires-6 : goal.add-requires-6
 unfolding matchit_on_literals
-add-requires-6 c = rw (c.in_ok-add-5.ensures.1, c.in_ok-add-4.ensures.1, c.in_ok-add-3.ensures.1, c.in_ok-add-2.ensures.1,
-    c.in_ok-add.ensures.1, c.new-router.ensures) (_, refl, refl)
+add-requires-6 c = rw (
+  c.in_ok-add-5.ensures.1,
+  c.in_ok-add-4.ensures.1,
+  c.in_ok-add-3.ensures.1,
+  c.in_ok-add-2.ensures.1,
+  c.in_ok-add.ensures.1,
+  c.new-router.ensures,
+) (_, refl, refl)
 
 pub add-requires-7 : goal.add-requires-7
 unfolding matchit_on_literals
-add-requires-7 c = rw (c.in_ok-add-6.ensures.1, c.in_ok-add-5.ensures.1, c.in_ok-add-4.ensures.1, c.in_ok-add-3.ensures.1,
-    c.in_ok-add-2.ensures.1, c.in_ok-add.ensures.1, c.new-router.ensures) (_, refl, refl)
+add-requires-7 c = rw (
+  c.in_ok-add-6.ensures.1,
+  c.in_ok-add-5.ensures.1,
+  c.in_ok-add-4.ensures.1,
+  c.in_ok-add-3.ensures.1,
+  c.in_ok-add-2.ensures.1,
+  c.in_ok-add.ensures.1,
+  c.new-router.ensures,
+) (_, refl, refl)
 
 pub add-requires-8 : goal.add-requires-8
 unfolding matchit_on_literals
-add-requires-8 c = rw (c.in_ok-add-7.ensures.1, c.in_ok-add-6.ensures.1, c.in_ok-add-5.ensures.1, c.in_ok-add-4.ensures.1,
-    c.in_ok-add-3.ensures.1, c.in_ok-add-2.ensures.1, c.in_ok-add.ensures.1, c.new-router.ensures) (_, refl, refl)
+add-requires-8 c = rw (
+  c.in_ok-add-7.ensures.1,
+  c.in_ok-add-6.ensures.1,
+  c.in_ok-add-5.ensures.1,
+  c.in_ok-add-4.ensures.1,
+  c.in_ok-add-3.ensures.1,
+  c.in_ok-add-2.ensures.1,
+  c.in_ok-add.ensures.1,
+  c.new-router.ensures,
+) (_, refl, refl)
 
 pub add-requires-9 : goal.add-requires-9
 unfolding matchit_on_literals
-add-requires-9 c = rw (c.in_ok-add-8.ensures.1, c.in_ok-add-7.ensures.1, c.in_ok-add-6.ensures.1, c.in_ok-add-5.ensures.1,
-    c.in_ok-add-4.ensures.1, c.in_ok-add-3.ensures.1, c.in_ok-add-2.ensures.1, c.in_ok-add.ensures.1, c.new-router.ensures) (_, refl, refl)
+add-requires-9 c = rw (
+  c.in_ok-add-8.ensures.1,
+  c.in_ok-add-7.ensures.1,
+  c.in_ok-add-6.ensures.1,
+  c.in_ok-add-5.ensures.1,
+  c.in_ok-add-4.ensures.1,
+  c.in_ok-add-3.ensures.1,
+  c.in_ok-add-2.ensures.1,
+  c.in_ok-add.ensures.1,
+  c.new-router.ensures,
+) (_, refl, refl)
 
 pub add-requires-10 : goal.add-requires-10
 unfolding matchit_on_literals
-add-requires-10 c = rw (c.in_ok-add-9.ensures.1, c.in_ok-add-8.ensures.1, c.in_ok-add-7.ensures.1, c.in_ok-add-6.ensures.1,
-    c.in_ok-add-5.ensures.1, c.in_ok-add-4.ensures.1, c.in_ok-add-3.ensures.1, c.in_ok-add-2.ensures.1, c.in_ok-add.ensures.1,
-    c.new-router.ensures) (_, refl, refl)
+add-requires-10 c = rw (
+  c.in_ok-add-9.ensures.1,
+  c.in_ok-add-8.ensures.1,
+  c.in_ok-add-7.ensures.1,
+  c.in_ok-add-6.ensures.1,
+  c.in_ok-add-5.ensures.1,
+  c.in_ok-add-4.ensures.1,
+  c.in_ok-add-3.ensures.1,
+  c.in_ok-add-2.ensures.1,
+  c.in_ok-add.ensures.1,
+  c.new-router.ensures,
+) (_, refl, refl)
 
 pub invariant_of-result : goal.invariant_of-result
 unfolding matchit_on_literals
 invariant_of-result c = record {
-  fixed = rw (c.in_ok-add-10.ensures.1, c.in_ok-add-9.ensures.1, c.in_ok-add-8.ensures.1, c.in_ok-add-7.ensures.1, c.in_ok-add-6.ensures.1,
-      c.in_ok-add-5.ensures.1, c.in_ok-add-4.ensures.1, c.in_ok-add-3.ensures.1, c.in_ok-add-2.ensures.1, c.in_ok-add.ensures.1,
-      c.new-router.ensures) refl;
+  fixed = rw (
+    c.in_ok-add-10.ensures.1,
+    c.in_ok-add-9.ensures.1,
+    c.in_ok-add-8.ensures.1,
+    c.in_ok-add-7.ensures.1,
+    c.in_ok-add-6.ensures.1,
+    c.in_ok-add-5.ensures.1,
+    c.in_ok-add-4.ensures.1,
+    c.in_ok-add-3.ensures.1,
+    c.in_ok-add-2.ensures.1,
+    c.in_ok-add.ensures.1,
+    c.new-router.ensures,
+  ) refl;
 }

@@ -17,7 +17,7 @@ returns-in-Some-clause-ok c =
     let new = λ (one : List ℕ). get_by_text (c.get_mut.follows.lender paths) one in
     let changed : Changed name (Some paths) old new =
     btree_map_updates_text name c.args.self.now.paths (c.get_mut.follows.lender paths) (Some paths)
-        ((c.get_mut.follows.holds paths).3 (search rules)) in
+    ((c.get_mut.follows.holds paths).3 (search rules)) in
     on_ok_weaker c.insert_copy.result (λ has. noted-more name (Some paths) old new changed c.args.path.now (λ q. has q
     ∙ ap (λ found. bytes_eq c.args.path.now q || is_in found q) c.in-Some.ensures.value))
     c.insert_copy.ensures.ok
@@ -30,7 +30,7 @@ returns-in-Some-clause-err c =
     let new = λ (one : List ℕ). get_by_text (c.get_mut.follows.lender paths) one in
     let changed : Changed name (Some paths) old new =
     btree_map_updates_text name c.args.self.now.paths (c.get_mut.follows.lender paths) (Some paths)
-        ((c.get_mut.follows.holds paths).3 (search rules)) in
+    ((c.get_mut.follows.holds paths).3 (search rules)) in
     on_err_weaker c.insert_copy.result (λ same. noted-same name (Some paths) old new changed
     (λ q. ap (λ texts. contains_text texts q) same ∙ ap (λ found. is_in found q) c.in-Some.ensures.value))
     c.insert_copy.ensures.err

@@ -18,7 +18,7 @@ loop-name-preserved c =
       noted = λ name any.
           let test : String Global → Bool = λ one. bytes_eq (string_bytes one) name in
           more-by text path old new c.in_ok-add.ensures.ok name (list_any test (take place names))
-              (test (get_or names place c.name-item.result))
+          (test (get_or names place c.name-item.result))
           (sym (list_any_more test names place c.name-item.result c.loop-name-test.true) ∙ any)
           (c.loop-name.invariant.noted name)
           (ap (λ bytes. bytes_eq bytes name) c.as_str.ensures.value ∙ ap test c.name-item.is);

@@ -15,7 +15,7 @@ returns-in-Some-clause-less c =
     let new = λ (one : List ℕ). get_by_text (c.get_mut.follows.lender paths) one in
     let changed : Changed name (Some paths) old new =
     btree_map_updates_text name c.args.self.now.paths (c.get_mut.follows.lender paths) (Some paths)
-        ((c.get_mut.follows.holds paths).3 (search rules)) in
+    ((c.get_mut.follows.holds paths).3 (search rules)) in
     noted-less name (Some paths) old new changed c.args.path.now
     (λ q. btree_set_updates_text c.args.path.now c.in-Some.paths.now paths false c.remove-was_there.ensures.updates q
     ∙ ap (λ found. cond (bytes_eq c.args.path.now q) false (is_in found q)) c.in-Some.ensures.value)

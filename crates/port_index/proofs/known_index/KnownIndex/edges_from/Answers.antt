@@ -19,8 +19,8 @@ returns c = λ world is.
     let paths = map string_bytes c.deref.result.now in
     let listed = ap (map string_bytes) c.deref.ensures.value ∙ is.paths.listed in
     let ordered : AreInOrder paths = ap in_order listed
-        ∙ in_order-again (flat_map (named_at (outcome_at world)) (directories (files_in world)) ++ directories (files_in world))
-        ∙ sym listed in
+    ∙ in_order-again (flat_map (named_at (outcome_at world)) (directories (files_in world)) ++ directories (files_in world))
+    ∙ sym listed in
     let same = ap (edges_among (known_in entries)) listed ∙ c.known_rows_are_enough.ensures.edges world entries is.rows in
     IfOk-weaker c.edges_from.result _ _ (λ found are. are ∙ ap (filter (λ (edge : RootEdgeValue). bytes_eq edge.root c.args.path.now)) same)
-        (c.edges_from.ensures ordered)
+    (c.edges_from.ensures ordered)

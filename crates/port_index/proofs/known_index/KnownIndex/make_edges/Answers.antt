@@ -9,5 +9,5 @@ pub returns : goal.returns
 returns c = λ world is.
     let entries = entries_in c.args.self.now.rows in
     let same = ap (λ items. edges_among (known_in entries) (map string_bytes items)) c.deref.ensures.value
-        ∙ ap (edges_among (known_in entries)) is.paths.listed ∙ c.known_rows_are_enough.ensures.edges world entries is.rows in
+    ∙ ap (edges_among (known_in entries)) is.paths.listed ∙ c.known_rows_are_enough.ensures.edges world entries is.rows in
     IfOk-weaker c.edges_among.result _ _ (λ found are. are ∙ same) c.edges_among.ensures

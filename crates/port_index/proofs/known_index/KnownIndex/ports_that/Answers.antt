@@ -17,8 +17,8 @@ returns g c = λ world test tests is.
     let paths = map string_bytes c.deref.result.now in
     let listed = ap (map string_bytes) c.deref.ensures.value ∙ is.paths.listed in
     let ordered : AreInOrder paths = ap in_order listed
-        ∙ in_order-again (flat_map (named_at (outcome_at world)) (directories (files_in world)) ++ directories (files_in world))
-        ∙ sym listed in
+    ∙ in_order-again (flat_map (named_at (outcome_at world)) (directories (files_in world)) ++ directories (files_in world))
+    ∙ sym listed in
     let same = ap (roots_among (known_in entries)) listed ∙ c.known_rows_are_enough.ensures.roots world entries is.rows in
     IfOk-weaker c.ports_among.result _ _ (λ found are. are ∙ ap (filter (is_port_that test)) same)
-        (c.ports_among.ensures test tests ordered)
+    (c.ports_among.ensures test tests ordered)

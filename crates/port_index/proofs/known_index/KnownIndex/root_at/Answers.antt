@@ -19,7 +19,7 @@ returns c = λ world is.
     let paths = map string_bytes c.deref.result.now in
     let listed = ap (map string_bytes) c.deref.ensures.value ∙ is.paths.listed in
     let ordered : AreInOrder paths = ap in_order listed
-        ∙ in_order-again (flat_map (named_at (outcome_at world)) (directories (files_in world)) ++ directories (files_in world))
-        ∙ sym listed in
+    ∙ in_order-again (flat_map (named_at (outcome_at world)) (directories (files_in world)) ++ directories (files_in world))
+    ∙ sym listed in
     let same = ap (roots_among (known_in entries)) listed ∙ c.known_rows_are_enough.ensures.roots world entries is.rows in
     c.root_among.ensures ordered ∙ ap (find (λ (root : RootValue). bytes_eq root.path c.args.path.now)) same

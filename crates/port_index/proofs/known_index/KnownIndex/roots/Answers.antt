@@ -9,5 +9,5 @@ pub returns : goal.returns
 returns c = λ world is.
     let entries = entries_in c.args.self.now.rows in
     let same = ap (λ items. roots_among (known_in entries) (map string_bytes items)) c.deref.ensures.value
-        ∙ ap (roots_among (known_in entries)) is.paths.listed ∙ c.known_rows_are_enough.ensures.roots world entries is.rows in
+    ∙ ap (roots_among (known_in entries)) is.paths.listed ∙ c.known_rows_are_enough.ensures.roots world entries is.rows in
     IfOk-weaker c.roots_among.result _ _ (λ found are. are ∙ same) c.roots_among.ensures

@@ -10,7 +10,7 @@ pub returns-then-eq-clause-row : goal.returns-then-eq-clause-row
 returns-then-eq-clause-row c = λ rows is.
     first-found rows c.args.self.now (c.in-Some.key, c.in-Some.known) c.args.path.now is c.in-Some.is
     ((bytes_eq-Decides _ c.args.path.now).0 (ap (λ text. bytes_eq text c.args.path.now) (sym c.as_str.ensures.value)
-        ∙ sym c.eq.ensures ∙ c.if-eq.true))
+    ∙ sym c.eq.ensures ∙ c.if-eq.true))
 
 pub returns-then-eq-clause-finder : goal.returns-then-eq-clause-finder
 returns-then-eq-clause-finder c = λ rows is.

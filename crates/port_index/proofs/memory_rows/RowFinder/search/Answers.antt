@@ -9,7 +9,7 @@ pub loop-self-preserved : goal.loop-self-preserved
 loop-self-preserved c = λ rows is.
     let new : RowFinder = record { rows = c.loop-self.self.rows; ahead = c.next-self.result; left = c.next-self.new.self } in
     finder-passed rows c.loop-self.self new (c.in-Some.key, c.in-Some.known) (c.loop-self.invariant rows is) c.in-Some.is refl
-        c.next-self.ensures.steps
+    c.next-self.ensures.steps
 
 pub returns-in-Equal-clause-row : goal.returns-in-Equal-clause-row
 returns-in-Equal-clause-row c = λ rows is.
@@ -19,6 +19,6 @@ returns-in-Equal-clause-row c = λ rows is.
 pub returns-in-Equal-clause-finder : goal.returns-in-Equal-clause-finder
 returns-in-Equal-clause-finder c = λ rows is.
     let new : RowFinder = record { rows = c.loop-self.self.rows; ahead = c.next-self-in-Equal.result; left = c.next-self-in-Equal.new.self }
-        in
+    in
     finder-passed rows c.loop-self.self new (c.in-Some.key, c.in-Some.known) (c.loop-self.invariant rows is) c.in-Some.is refl
-        c.next-self-in-Equal.ensures.steps
+    c.next-self-in-Equal.ensures.steps

@@ -24,14 +24,14 @@ loop-path-preserved-in_ok-push c = (
       ∙ ap (is_one_of path) (map-append string_bytes c.loop-path.paths.items (c.in_ok-from_str.field-0 ∷ []))
       ∙ list_any-append (λ other. bytes_eq other path) found (string_bytes c.in_ok-from_str.field-0 ∷ [])
       ∙ ap (λ bytes. is_one_of path found || (bytes_eq bytes path || false)) (c.in_ok-from_str.ensures.ok
-          ∙ c.as_str-then-asks.ensures.value) in
+      ∙ c.as_str-then-asks.ensures.value) in
       let asked : bytes_eq one path ≡ true → asks ≡ true = λ same.
       ap (λ p. asks_in (get_by_text c.args.self.now.rows p) c.args.name.now) (sym ((bytes_eq-Decides one path).0 same))
       ∙ ap (λ p. asks_in (get_by_text c.args.self.now.rows p) c.args.name.now) (sym c.as_str.ensures.value)
       ∙ sym c.asks.ensures ∙ c.if-asks.true in
       ap (λ b. b || (left && asks)) added ∙ step-asked (is_one_of path found) left (bytes_eq one path) asks asked
       ∙ ap (λ (keys : List (String Global)). is_one_of path found || (is_one_of path (map string_bytes keys) && asks))
-          (sym c.in-Some.ensures.steps)
+      (sym c.in-Some.ensures.steps)
       ∙ c.loop-path.invariant.2 path,
 )
 

@@ -16,6 +16,6 @@ returns c = λ path.
     ap (is_one_of path) c.put_in_order.ensures ∙ among-in_order (λ one. bytes_eq one path) found
     ∙ sym (or-none (is_one_of path found))
     ∙ ap (λ (left : List (String Global)). is_one_of path found || list_any (λ (name : String Global). asks_in row (string_bytes name))
-        left) (sym c.in-None.ensures.steps.0)
+    left) (sym c.in-None.ensures.steps.0)
     ∙ c.loop-name.invariant.2 path
     ∙ asks-one c.args.names.now row

@@ -19,10 +19,10 @@ returns-in-Ok-clause-ok c =
 pub invariant_of-self-2 : goal.invariant_of-self-2
 invariant_of-self-2 c =
     let noted : (name : List ℕ) → asks_in (Some c.args.row) name ≡ true
-        → is_noted c.add_all.new.self name (string_bytes c.args.path) ≡ true = λ name asks.
+    → is_noted c.add_all.new.self name (string_bytes c.args.path) ≡ true = λ name asks.
     ap (is_noted c.add_all.new.self name) (sym c.as_str.ensures.value)
     ∙ c.in_ok-add_all.ensures.noted name (ap (list_any (λ (one : String Global). bytes_eq (string_bytes one) name)) c.deref.ensures.value
-        ∙ asks) in
+    ∙ asks) in
     let was = is_noted c.args.self.now.asked in
     let is = is_noted c.add_all.new.self in
     let old = λ (path : List ℕ). get_by_text c.args.self.now.rows path in
@@ -33,6 +33,6 @@ invariant_of-self-2 c =
           noted c.add_all.ensures.stays c.args.self.now.noted)
           (λ same name path asks. c.add_all.ensures.stays name path
           (c.args.self.now.noted name path
-              (ap (λ (entries : List (String Global × KnownRow)). asks_in
-              (lookup (is_at (λ (key : String Global). slice_cmp nat_cmp path (string_bytes key))) entries) name) (sym same) ∙ asks)));
+          (ap (λ (entries : List (String Global × KnownRow)). asks_in
+          (lookup (is_at (λ (key : String Global). slice_cmp nat_cmp path (string_bytes key))) entries) name) (sym same) ∙ asks)));
     }

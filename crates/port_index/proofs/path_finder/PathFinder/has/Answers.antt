@@ -10,6 +10,6 @@ returns-then-eq-clause-has c = λ paths finds ordered.
     let path = c.args.path.now in
     sym (ap (is_one_of path) (sym finds ∙ ap (λ (lent : Bor (List (String Global))). map string_bytes lent.now) (sym c.loop-self.invariant))
     ∙ one_of-place c.loop-self.self.paths.now c.loop-self.self.place c.index-self-self.result path
-        c.loop-self-test.true c.index-self-self.is
+    c.loop-self-test.true c.index-self-self.is
     (ap (λ (one : String Global). bytes_eq (string_bytes one) path) c.index-self-self.is
     ∙ ap (λ text. bytes_eq text path) (sym c.as_str-ahead.ensures.value) ∙ sym c.eq.ensures ∙ c.if-eq.true))

@@ -18,8 +18,8 @@ pub returns-clause-ok : goal.returns-clause-ok
 returns-clause-ok g c =
     let no_job : Option TenantJob = None in
     new_state_is c.args.config.keys.items (g.K.Tenants.worlds c.in_ok-worlds.worlds) c.in_ok-queues.queues.items
-        (g.K.Tenants.jobs c.in_ok-worlds.worlds) (g.K.Tenants.sharing c.in_ok-worlds.worlds) (sizes_of c.args.config)
-        c.len-count.result c.new-2.result.entries
+    (g.K.Tenants.jobs c.in_ok-worlds.worlds) (g.K.Tenants.sharing c.in_ok-worlds.worlds) (sizes_of c.args.config)
+    c.len-count.result c.new-2.result.entries
     (counted opening_world c.in_ok-worlds.ensures.worlds (omega arith)) c.in_ok-queues.ensures
     (counted no_job c.in_ok-worlds.ensures.jobs (omega arith)) (omega arith) c.new-2.ensures.empty c.in_ok-worlds.ensures.sharing
 

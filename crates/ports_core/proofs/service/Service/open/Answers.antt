@@ -11,10 +11,10 @@ returns-clause-opens g c =
     let updates = on_ok _ c.insert.result (ap is_err c.in_default.is) c.insert.ensures.updates in
     rw (← c.self.view_is)
     (inl (opened (key_texts c.self.inside.keys.items) c.self.inside.next (g.K.Tenants.jobs c.self.inside.worlds)
-        (g.K.Tenants.sharing c.self.inside.worlds) c.nothing.result (g.K.Tenants.worlds c.self.inside.worlds) c.self.inside.queues.items
-        c.self.inside.connections.entries c.insert.new.self.entries c.in-Ok.connection
+    (g.K.Tenants.sharing c.self.inside.worlds) c.nothing.result (g.K.Tenants.worlds c.self.inside.worlds) c.self.inside.queues.items
+    c.self.inside.connections.entries c.insert.new.self.entries c.in-Ok.connection
     (omega arith) (let h = c.if-self.false in omega arith) c.nothing.ensures.reply c.nothing.ensures.refused c.nothing.ensures.closed
-        c.in-Ok.ensures updates.1 (λ d ne. updates.2 d (is_eq-nat_cmp_other c.self.inside.next d ne))))
+    c.in-Ok.ensures updates.1 (λ d ne. updates.2 d (is_eq-nat_cmp_other c.self.inside.next d ne))))
 
 pub invariant_of-self-2 : goal.invariant_of-self-2
 invariant_of-self-2 g c =

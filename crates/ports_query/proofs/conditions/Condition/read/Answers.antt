@@ -7,4 +7,4 @@ use Rattle.ports_query.proofs.conditions.Condition.read.Goals as goal
 pub split_at-requires : goal.split_at-requires
 split_at-requires c =
     boundary c.args.text.now c.plain_length.result (c.plain_length.ensures.length ∙ ap plain_length c.as_bytes.ensures.value)
-        (omega (arith, ap length c.as_bytes.ensures.value))
+    (omega (arith, ap length c.as_bytes.ensures.value))

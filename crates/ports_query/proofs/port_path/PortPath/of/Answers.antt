@@ -18,4 +18,4 @@ none_chosen f (Some x) chosen is none = absurd (false≢true (sym none))
 pub returns-then-is_none : goal.returns-then-is_none
 returns-then-is_none c =
     c.directory.ensures.directory ∙ plain_path c.args.target.now (none_chosen (λ names. map string_bytes names.now) c.flavors.result
-        c.args.target.now.flavors c.flavors.ensures c.if-is_none.ensures)
+    c.args.target.now.flavors c.flavors.ensures c.if-is_none.ensures)

@@ -20,4 +20,4 @@ returns c =
     let line = rw c.deref.ensures.value at c.in_ok-line.ensures.lookup.3 in
     let event = rw c.deref-2.ensures.value at c.in_ok-event.ensures.lookup.3 in
     sym (entry-some script.lines.items script.events.items c.args.index c.in_ok-line.line.now c.in_ok-event.event.now
-        line.0 event.0 line.1 event.1)
+    line.0 event.0 line.1 event.1)

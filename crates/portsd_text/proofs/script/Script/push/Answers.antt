@@ -6,4 +6,4 @@ pub returns-clause-added : goal.returns-clause-added
 returns-clause-added c =
     let script = c.args.self.now in
     rw (c.in_ok-push.ensures.items, c.in_ok-push-2.ensures.items) (zip-push script.lines.items script.events.items c.args.line c.args.event
-        (omega (arith, script.lines.ok.0, script.events.ok.0)))
+    (omega (arith, script.lines.ok.0, script.events.ok.0)))

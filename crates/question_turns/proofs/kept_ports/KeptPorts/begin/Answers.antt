@@ -25,7 +25,7 @@ no_record world (Record path) (Done reply spent) is = absurd is
 pub returns-in-Some-clause-later : goal.returns-in-Some-clause-later
 returns-in-Some-clause-later g c =
     IfOk-weaker c.evaluate_on.result _ _ (no_record (world_of_ports g.F.Names.view c.args.self.now) c.args.question)
-        c.evaluate_on.ensures.later
+    c.evaluate_on.ensures.later
 
 pub returns-in-Some-clause-turn : goal.returns-in-Some-clause-turn
 returns-in-Some-clause-turn g c = λ refresh.
@@ -34,7 +34,7 @@ returns-in-Some-clause-turn g c = λ refresh.
     let world = world_of_ports g.F.Names.view c.args.self.now in
     subst (λ (s : Spent). IfOk c.evaluate_on.result (IsQuestionTurn world refresh question s (turns world s))) c.nothing.ensures
     (subst (λ (files : FileMap). let w : World = (files, c.args.self.now.settings.now) in IfOk c.evaluate_on.result
-        (IsQuestionTurn w refresh question c.nothing.result (turns w c.nothing.result)))
+    (IsQuestionTurn w refresh question c.nothing.result (turns w c.nothing.result)))
     c.in_ok-ask.ensures.leaves.0 (c.evaluate_on.ensures.turn refresh))
 
 pub evaluate_on-requires-clause-looked : goal.evaluate_on-requires-clause-looked

@@ -17,7 +17,7 @@ pub end_turn-requires : goal.end_turn-requires
 end_turn-requires g c =
     let before = c.args.before in
     let units_is = c.left_of-units.ensures ∙ ap (λ (s : Spent). TURN_UNITS - ((s.units - before.units) + (s.checks - before.checks)))
-        c.spent.ensures.is in
+    c.spent.ensures.is in
     record {
       begun = record {
         world = world_of_ports g.F.Names.view c.args.self.now;
@@ -35,8 +35,8 @@ returns-clause-turn g c = λ refresh.
     let world = world_of_ports g.F.Names.view c.args.self.now in
     let before = c.args.before in
     let units_is = c.left_of-units.ensures ∙ ap (λ (s : Spent). TURN_UNITS - ((s.units - before.units) + (s.checks - before.checks)))
-        c.spent.ensures.is in
+    c.spent.ensures.is in
     c.in_ok-end_turn.ensures.turn world refresh
     (c.in_ok-ask.ensures.goes_on c.args.self.now.settings.now (path_asked c.args.question) c.requires.ask)
     (in-time-on world c.args.question before c.args.ask c.in_ok-ask.ask.came _ c.requires.ask c.requires.looked c.requires.up units_is
-        c.in_ok-ask.ensures.turns)
+    c.in_ok-ask.ensures.turns)

@@ -25,7 +25,7 @@ returns-in-More-clause-refreshes g c = λ before is.
     let new = refresh_of g.R.PathRows.entries c.refresh_once.new.self.keeper.now in
     goes_on world TURN_UNITS old new before c.in-More.spent
     (turn_in world _ TURN_UNITS old new _ (More c.in-More.spent) c.loop-spent.invariant.leaves.world c.in-More.is
-        c.in_ok-refresh_once.ensures.turn.turn) (c.loop-spent.invariant.spent before is)
+    c.in_ok-refresh_once.ensures.turn.turn) (c.loop-spent.invariant.spent before is)
 
 pub loop-spent-smaller : goal.loop-spent-smaller
 loop-spent-smaller g c =
@@ -34,7 +34,7 @@ loop-spent-smaller g c =
     let new = refresh_of g.R.PathRows.entries c.refresh_once.new.self.keeper.now in
     fewer c.refreshing_pays.ensures world old new c.in-Evaluated.spent
     (turn_in world _ TURN_UNITS old new _ (Evaluated c.in-Evaluated.spent) c.loop-spent.invariant.leaves.world c.in-Evaluated.is
-        c.in_ok-refresh_once.ensures.turn.turn).renews
+    c.in_ok-refresh_once.ensures.turn.turn).renews
 
 pub loop-spent-preserved : goal.loop-spent-preserved
 loop-spent-preserved g c =
@@ -48,22 +48,22 @@ loop-spent-preserved g c =
           c.loop-spent.invariant.paid
           (c.refreshing_pays.ensures.pays world TURN_UNITS old new (Evaluated c.in-Evaluated.spent)
           (turn_in world _ TURN_UNITS old new _ (Evaluated c.in-Evaluated.spent) c.loop-spent.invariant.leaves.world c.in-Evaluated.is
-              c.in_ok-refresh_once.ensures.turn.turn))
+          c.in_ok-refresh_once.ensures.turn.turn))
           (c.is_nothing.ensures.nothing c.if-not-is_nothing.false)
           (turn_in world _ TURN_UNITS old new _ (Evaluated c.in-Evaluated.spent) c.loop-spent.invariant.leaves.world c.in-Evaluated.is
-              c.in_ok-refresh_once.ensures.turn.turn).renews.1;
+          c.in_ok-refresh_once.ensures.turn.turn).renews.1;
       spent = λ before is.
           renews_freely c.refreshing_pays.ensures world old new before c.in-Evaluated.spent
-              (c.is_nothing.ensures.nothing c.if-not-is_nothing.false)
+          (c.is_nothing.ensures.nothing c.if-not-is_nothing.false)
           (turn_in world _ TURN_UNITS old new _ (Evaluated c.in-Evaluated.spent) c.loop-spent.invariant.leaves.world c.in-Evaluated.is
-              c.in_ok-refresh_once.ensures.turn.turn).renews
+          c.in_ok-refresh_once.ensures.turn.turn).renews
           (c.loop-spent.invariant.spent before is);
       few = omega (
         arith,
         c.loop-spent.invariant.few,
         renews-few c.refreshing_pays.ensures world old new c.in-Evaluated.spent
             (turn_in world _ TURN_UNITS old new _ (Evaluated c.in-Evaluated.spent) c.loop-spent.invariant.leaves.world c.in-Evaluated.is
-                c.in_ok-refresh_once.ensures.turn.turn).renews,
+            c.in_ok-refresh_once.ensures.turn.turn).renews,
       );
     }
 
@@ -74,7 +74,7 @@ returns-then-not-is_nothing-clause-refreshes g c = λ before is.
     let new = refresh_of g.R.PathRows.entries c.refresh_once.new.self.keeper.now in
     renews c.refreshing_pays.ensures world old new before c.in-Evaluated.spent
     (turn_in world _ TURN_UNITS old new _ (Evaluated c.in-Evaluated.spent) c.loop-spent.invariant.leaves.world c.in-Evaluated.is
-        c.in_ok-refresh_once.ensures.turn.turn).renews
+    c.in_ok-refresh_once.ensures.turn.turn).renews
     (c.loop-spent.invariant.spent before is)
 
 pub returns-in-More-clause-fewer : goal.returns-in-More-clause-fewer
@@ -87,7 +87,7 @@ returns-in-More-clause-fewer g c =
       c.loop-spent.invariant.few,
       goes-less world old new c.in-More.spent
           (turn_in world _ TURN_UNITS old new _ (More c.in-More.spent) c.loop-spent.invariant.leaves.world c.in-More.is
-              c.in_ok-refresh_once.ensures.turn.turn),
+          c.in_ok-refresh_once.ensures.turn.turn),
     )
 
 pub returns-in-More-clause-told : goal.returns-in-More-clause-told
@@ -98,7 +98,7 @@ returns-in-More-clause-told g c = λ before.
     let new = refresh_of g.R.PathRows.entries c.refresh_once.new.self.keeper.now in
     in-time c.refreshing_pays.ensures world first old new before (More c.in-More.spent) c.loop-spent.invariant.paid
     (turn_in world _ TURN_UNITS old new _ (More c.in-More.spent) c.loop-spent.invariant.leaves.world c.in-More.is
-        c.in_ok-refresh_once.ensures.turn.turn)
+    c.in_ok-refresh_once.ensures.turn.turn)
 
 pub returns-then-not-is_nothing-clause-fewer : goal.returns-then-not-is_nothing-clause-fewer
 returns-then-not-is_nothing-clause-fewer g c =
@@ -110,7 +110,7 @@ returns-then-not-is_nothing-clause-fewer g c =
       c.loop-spent.invariant.few,
       renews-less c.refreshing_pays.ensures world old new c.in-Evaluated.spent
           (turn_in world _ TURN_UNITS old new _ (Evaluated c.in-Evaluated.spent) c.loop-spent.invariant.leaves.world c.in-Evaluated.is
-              c.in_ok-refresh_once.ensures.turn.turn).renews
+          c.in_ok-refresh_once.ensures.turn.turn).renews
           (c.is_nothing.ensures.some c.if-not-is_nothing.true),
     )
 
@@ -122,7 +122,7 @@ returns-then-not-is_nothing-clause-told g c = λ before.
     let new = refresh_of g.R.PathRows.entries c.refresh_once.new.self.keeper.now in
     in-time c.refreshing_pays.ensures world first old new before (Evaluated c.in-Evaluated.spent) c.loop-spent.invariant.paid
     (turn_in world _ TURN_UNITS old new _ (Evaluated c.in-Evaluated.spent) c.loop-spent.invariant.leaves.world c.in-Evaluated.is
-        c.in_ok-refresh_once.ensures.turn.turn)
+    c.in_ok-refresh_once.ensures.turn.turn)
 
 pub returns-in-Done-clause-told : goal.returns-in-Done-clause-told
 returns-in-Done-clause-told g c = λ before.
@@ -146,19 +146,19 @@ loop-spent-init g c =
 pub returns-in-Done-clause-leaves : goal.returns-in-Done-clause-leaves
 returns-in-Done-clause-leaves g c =
     leaves-on g.F.Names.view g.R.PathRows.entries c.args.self.now c.loop-spent.self c.refresh_once.new.self c.loop-spent.invariant.leaves
-        c.in_ok-refresh_once.ensures.leaves
+    c.in_ok-refresh_once.ensures.leaves
 
 pub returns-in-More-clause-leaves : goal.returns-in-More-clause-leaves
 returns-in-More-clause-leaves g c =
     leaves-on g.F.Names.view g.R.PathRows.entries c.args.self.now c.loop-spent.self c.refresh_once.new.self c.loop-spent.invariant.leaves
-        c.in_ok-refresh_once.ensures.leaves
+    c.in_ok-refresh_once.ensures.leaves
 
 pub returns-then-not-is_nothing-clause-leaves : goal.returns-then-not-is_nothing-clause-leaves
 returns-then-not-is_nothing-clause-leaves g c =
     leaves-on g.F.Names.view g.R.PathRows.entries c.args.self.now c.loop-spent.self c.refresh_once.new.self c.loop-spent.invariant.leaves
-        c.in_ok-refresh_once.ensures.leaves
+    c.in_ok-refresh_once.ensures.leaves
 
 pub returns-in_err-refresh_once-clause-leaves : goal.returns-in_err-refresh_once-clause-leaves
 returns-in_err-refresh_once-clause-leaves g c =
     leaves-on g.F.Names.view g.R.PathRows.entries c.args.self.now c.loop-spent.self c.refresh_once.new.self c.loop-spent.invariant.leaves
-        c.in_err-refresh_once.ensures.leaves
+    c.in_err-refresh_once.ensures.leaves

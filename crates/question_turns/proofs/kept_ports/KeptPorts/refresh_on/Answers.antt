@@ -22,9 +22,9 @@ returns-in-Some-clause-turn g c =
     let before = c.args.before in
     let so_far : IsSpentOnIndex world refresh c.and.result =
     subst (IsSpentOnIndex world refresh) (sym c.and.ensures) (subst (RefreshesOn world refresh before) c.in-Some.is
-        (c.in_ok-spent.ensures.refreshes before c.requires)) in
+    (c.in_ok-spent.ensures.refreshes before c.requires)) in
     let told = subst (λ (spent : Option Spent). RefreshesInTime world old refresh before
-        (spent_together before (unwrap_or spent no_spending))) c.in-Some.is (c.in_ok-spent.ensures.told before) in
+    (spent_together before (unwrap_or spent no_spending))) c.in-Some.is (c.in_ok-spent.ensures.told before) in
     record {
       turned = record {
         same = refl;
@@ -47,7 +47,7 @@ returns-in-Some-clause-told g c =
     let before = c.args.before in
     subst (RefreshesInTime world old refresh before) (sym c.and.ensures)
     (subst (λ (spent : Option Spent). RefreshesInTime world old refresh before (spent_together before (unwrap_or spent no_spending)))
-        c.in-Some.is (c.in_ok-spent.ensures.told before))
+    c.in-Some.is (c.in_ok-spent.ensures.told before))
 
 nothing_more : (before : Spent) → before.units ≤ 2 ^ 64 - 1 → before.checks ≤ 2 ^ 64 - 1 → spent_together before no_spending ≡ before
 nothing_more before units checks i = record { units = same before.units units i; checks = same before.checks checks i }
@@ -64,4 +64,4 @@ returns-in_ok-reply-in-None-clause-told g c =
     subst (λ (now : RefreshView). RefreshesInTime world old now before before) (sym c.reply.ensures.refresh)
     (subst (RefreshesInTime world old refresh before) (nothing_more before (omega arith) (omega arith))
     (subst (λ (spent : Option Spent). RefreshesInTime world old refresh before (spent_together before (unwrap_or spent no_spending)))
-        c.in-None.is (c.in_ok-spent.ensures.told before)))
+    c.in-None.is (c.in_ok-spent.ensures.told before)))

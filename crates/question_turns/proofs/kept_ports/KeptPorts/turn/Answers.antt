@@ -25,14 +25,14 @@ module _ (world : World) (old new : RefreshView) (under_way : UnderWay) (questio
   begun is nothing turn later =
       subst (λ (stage : Stage). TurnsOn world old new (record { stage = stage; spent = under_way.spent }) came) (sym is)
       (subst (λ (spent : Spent). TurnsOn world old new (record { stage = Begun question; spent = spent }) came) (sym nothing)
-          (record { turn = turn; later = later; refresh = tt }))
+      (record { turn = turn; later = later; refresh = tt }))
 
   evaluating : (ask : PortAsk) → under_way.stage ≡ Evaluating question ask
       → IsQuestionTurn world new (OfPort question) under_way.spent (turns_after world (OfPort question) (total_of under_way.spent)) came
       → TellsNoRecord question came → TurnsOn world old new under_way came
   evaluating ask is turn later =
       subst (λ (stage : Stage). TurnsOn world old new (record { stage = stage; spent = under_way.spent }) came) (sym is)
-          (record { turn = turn; later = later; refresh = tt })
+      (record { turn = turn; later = later; refresh = tt })
 
 pub returns-in-Begun-clause-turn : goal.returns-in-Begun-clause-turn
 returns-in-Begun-clause-turn g c =
@@ -41,7 +41,7 @@ returns-in-Begun-clause-turn g c =
     let new = refresh_of g.R.PathRows.entries c.begin.new.self.keeper.now in
     let nothing = subst (IsSpentAtStage world old c.args.under_way.spent) c.in-Begun.is c.requires in
     both_ok c.begin.result (λ came. begun world old new c.args.under_way c.in-Begun.question came c.in-Begun.is nothing)
-        (c.begin.ensures.turn new) c.begin.ensures.later
+    (c.begin.ensures.turn new) c.begin.ensures.later
 
 pub returns-in-Evaluating-clause-turn : goal.returns-in-Evaluating-clause-turn
 returns-in-Evaluating-clause-turn g c =
@@ -49,5 +49,5 @@ returns-in-Evaluating-clause-turn g c =
     let old = refresh_of g.R.PathRows.entries c.args.self.now.keeper.now in
     let new = refresh_of g.R.PathRows.entries c.evaluate_on.new.self.keeper.now in
     both_ok c.evaluate_on.result (λ came. evaluating world old new c.args.under_way c.in-Evaluating.question came
-        c.in-Evaluating.ask c.in-Evaluating.is)
+    c.in-Evaluating.ask c.in-Evaluating.is)
     (c.evaluate_on.ensures.turn new) c.evaluate_on.ensures.later

@@ -39,7 +39,7 @@ returns-then-left_of-eq0-clause-turn c = λ world refresh is in_time.
     let more = all-acted before evaluated c.left_of.result up c.left_of.ensures grind (arith, nat_tests, c.if-left_of-eq0.true) in
     let turned = goes_on world refresh c.args.question c.args.self before evaluated is so_far (omega arith)
     (c.spent-evaluated.ensures.within (files_in world) (key_for world.1 c.args.self.makefile (path_asked c.args.question).flavors) is.came)
-        up more
+    up more
     (subst (EvaluatesInTime world (pair_of world (path_asked c.args.question)) TURN_UNITS before) (sym so_far) in_time) in
     record {
       turned = turned;
@@ -61,7 +61,7 @@ module _ (world : World) (question : PortQuestion) (makefile : List ℕ) (before
   made_up =
       subst (IsUpFrom before) (sym spent_is)
       (made-up world question makefile asked placed answer cost cost_is before small
-          (subst (λ (c : AskTurned). IsUpFrom before (spent_in c)) is up))
+      (subst (λ (c : AskTurned). IsUpFrom before (spent_in c)) is up))
 
   made_charged : AskingSpends → SpendsFor world (OfPort question) spent
   made_charged law = subst (SpendsFor world (OfPort question)) (sym spent_is)
@@ -80,7 +80,7 @@ module _ (world : World) (question : PortQuestion) (makefile : List ℕ) (before
   made_few few records evaluated evaluated_is less =
       subst (IsShort TURN_UNITS before) (sym spent_is)
       (few-made before asked cost (subst (λ (n : ℕ). n ≤ cost_of asked.evaluation.value.outcome + UNITS) (sym cost_is)
-          (most-asked few records question makefile asked.evaluation.value.outcome))
+      (most-asked few records question makefile asked.evaluation.value.outcome))
       (subst (λ (s : Spent). total_of s < total_of before + TURN_UNITS) (evaluated_is ∙ ap spent_in is) less))
 
   made_in_time : (evaluated : Spent) → evaluated ≡ spent_in came → total_of evaluated < total_of before + TURN_UNITS
@@ -88,7 +88,7 @@ module _ (world : World) (question : PortQuestion) (makefile : List ℕ) (before
   made_in_time evaluated evaluated_is less =
       subst (RepliesInTime world question before) (sym spent_is)
       (made-in-time world question makefile asked placed answer cost cost_is before
-          (subst (λ (s : Spent). total_of s < total_of before + TURN_UNITS) (evaluated_is ∙ ap spent_in is) less))
+      (subst (λ (s : Spent). total_of s < total_of before + TURN_UNITS) (evaluated_is ∙ ap spent_in is) less))
 
 acts-record : (question : PortQuestion) (before after : Spent) → is_of_record question ≡ true → ActsForValue (OfPort question) before after
 acts-record (Variable asked) before after is = absurd cc
@@ -100,7 +100,7 @@ left_of-requires-then-not-takes_record c =
     let makefile = c.args.self.makefile in
     let cost = c.in_ok-reply.ensures.cost ∙ ap (λ (e : Evaluation). cost_after question makefile e.outcome) c.deref.ensures in
     made_up c.requires.begun.world question makefile c.args.before c.args.self.came c.in-Done.asked
-        c.in_ok-reply.cost c.spent_on-spent.result
+    c.in_ok-reply.cost c.spent_on-spent.result
     c.requires.begun.is.placed c.requires.begun.is.came c.requires.up c.in-Done.is (omega arith) cost c.spent_on-spent.ensures
 
 pub returns-then-left_of-gt0-clause-turn : goal.returns-then-left_of-gt0-clause-turn
@@ -114,9 +114,9 @@ returns-then-left_of-gt0-clause-turn c = λ world refresh is in_time.
     let cost = c.in_ok-reply.ensures.cost ∙ ap (λ (e : Evaluation). cost_after question makefile e.outcome) c.deref.ensures in
     let reply = c.in_ok-reply.ensures.reply ∙ ap (λ (e : Evaluation). reply_after question makefile e.outcome) c.deref.ensures in
     let up = made_up world question makefile before came asked c.in_ok-reply.cost spent is.placed is.came c.requires.up c.in-Done.is
-        (omega arith) cost c.spent_on-spent.ensures in
+    (omega arith) cost c.spent_on-spent.ensures in
     let few = may-act before spent c.left_of-then-not-takes_record.result up c.left_of-then-not-takes_record.ensures
-        (grind (arith, nat_tests, c.if-left_of-gt0.true)) in
+    (grind (arith, nat_tests, c.if-left_of-gt0.true)) in
     let evaluated_up = subst (IsUpFrom before) (sym c.spent-evaluated.ensures.is) c.requires.up in
     record {
       turned = record {
@@ -124,7 +124,7 @@ returns-then-left_of-gt0-clause-turn c = λ world refresh is in_time.
             c.in-Done.is (omega arith) cost c.spent_on-spent.ensures
             c.spent-evaluated.result c.spent-evaluated.ensures.is
             (may-act before c.spent-evaluated.result c.left_of.result evaluated_up c.left_of.ensures
-                (grind (arith, nat_tests, c.if-left_of-eq0.false)));
+            (grind (arith, nat_tests, c.if-left_of-eq0.false)));
         answer = made_answers world question makefile before came asked c.in_ok-reply.cost spent is.placed is.came c.requires.up
             c.in-Done.is (omega arith) cost c.spent_on-spent.ensures c.in_ok-reply.reply reply;
         up = up;
@@ -146,7 +146,7 @@ returns-clause-turn c = λ world refresh is in_time.
     let cost = c.in_ok-reply.ensures.cost ∙ ap (λ (e : Evaluation). cost_after question makefile e.outcome) c.deref.ensures in
     let reply = c.in_ok-reply.ensures.reply ∙ ap (λ (e : Evaluation). reply_after question makefile e.outcome) c.deref.ensures in
     let up = made_up world question makefile before came asked c.in_ok-reply.cost spent is.placed is.came c.requires.up c.in-Done.is
-        (omega arith) cost c.spent_on-spent.ensures in
+    (omega arith) cost c.spent_on-spent.ensures in
     let evaluated_up = subst (IsUpFrom before) (sym c.spent-evaluated.ensures.is) c.requires.up in
     record {
       turned = record {
@@ -154,7 +154,7 @@ returns-clause-turn c = λ world refresh is in_time.
             c.in-Done.is (omega arith) cost c.spent_on-spent.ensures
             c.spent-evaluated.result c.spent-evaluated.ensures.is
             (may-act before c.spent-evaluated.result c.left_of.result evaluated_up c.left_of.ensures
-                (grind (arith, nat_tests, c.if-left_of-eq0.false)));
+            (grind (arith, nat_tests, c.if-left_of-eq0.false)));
         same = refl;
         pending = (
           made_answers world question makefile before came asked c.in_ok-reply.cost spent is.placed is.came c.requires.up c.in-Done.is
@@ -168,7 +168,7 @@ returns-clause-turn c = λ world refresh is in_time.
         acts = elim c.else-not-takes_record.branch [
           | else-not-takes_record-via-then-not-takes_record+else-left_of-gt0 w ↦
               acts question before spent (all-acted before spent w.left_of-then-not-takes_record.result up
-                  w.left_of-then-not-takes_record.ensures (grind (arith, nat_tests, w.if-left_of-gt0.false)))
+              w.left_of-then-not-takes_record.ensures (grind (arith, nat_tests, w.if-left_of-gt0.false)))
           | else-not-takes_record-via-else-not-takes_record w ↦ acts-record question before spent (sym c.takes_record.ensures
               ∙ w.if-not-takes_record.false)
         ];
@@ -178,5 +178,5 @@ returns-clause-turn c = λ world refresh is in_time.
           (omega arith) cost c.spent_on-spent.ensures
           c.evaluations_cost_few.ensures c.records_cost_few.ensures c.spent-evaluated.result c.spent-evaluated.ensures.is
           (may-act before c.spent-evaluated.result c.left_of.result evaluated_up c.left_of.ensures
-              (grind (arith, nat_tests, c.if-left_of-eq0.false)));
+          (grind (arith, nat_tests, c.if-left_of-eq0.false)));
     }

@@ -14,11 +14,11 @@ returns c =
     let new = c.put_away_at.new.tenants in
     let slice = c.deref_mut.ensures.value in
     let refill = refill_same c.self.inside.tenants.len old new (c.put_away_at.ensures.count ∙ ap length slice)
-        (omega (arith, c.self.inside.tenants.ok)) in
+    (omega (arith, c.self.inside.tenants.ok)) in
     ap₂ (λ (worlds : List World) (jobs : List (Option TenantJob)). let stored : Stored =
-        (worlds, jobs, sharing_in c.self.inside.cache) in stored)
+    (worlds, jobs, sharing_in c.self.inside.cache) in stored)
     (ap worlds_of refill ∙ c.put_away_at.ensures.worlds ∙ ap worlds_of slice) (ap jobs_of refill
-        ∙ c.put_away_at.ensures.jobs ∙ ap jobs_of slice)
+    ∙ c.put_away_at.ensures.jobs ∙ ap jobs_of slice)
     ∙ c.self.view_is
 
 pub invariant_of-self : goal.invariant_of-self

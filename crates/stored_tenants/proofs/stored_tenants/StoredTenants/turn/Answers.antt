@@ -40,17 +40,20 @@ returns-clause-answers c =
     let refill = refill_same c.self.inside.tenants.len items c.turn_at.new.tenants lent (omega (arith, c.self.inside.tenants.ok)) in
     let count = ap length refill ∙ lent in
     let others = λ (u : ℕ) (ne : u ≢ c.args.tenant). ap (λ (ts : List Tenant). slice_get ts u) refill ∙ c.turn_at.ensures.same u ne
-        ∙ ap (λ (ts : List Tenant). slice_get ts u) slice in
+    ∙ ap (λ (ts : List Tenant). slice_get ts u) slice in
     rw (← c.self.view_is)
     (elim c.match-turn_at.branch [
       | in-Ok w ↦ rw w.result-is (work_answers items _ c.args.tenant within count others c.args.request.now _
           (subst (λ (ts : List Tenant). AnswersOver (world_at c.args.tenant items) (world_at c.args.tenant ts) c.args.request.now
           w.in-Ok.worked.reply) (sym refill)
           (subst (λ (ts : List Tenant). AnswersOver (world_at c.args.tenant ts) (world_at c.args.tenant c.turn_at.new.tenants)
-              c.args.request.now w.in-Ok.worked.reply) slice w.in-Ok.ensures.works.answers)))
+          c.args.request.now w.in-Ok.worked.reply) slice w.in-Ok.ensures.works.answers)))
       | in-Err w ↦ rw w.result-is (answers_for items _ c.args.tenant within count others c.args.request.now _
-          (inr (w.store_failed.ensures.value, ap (world_at c.args.tenant) refill ∙ w.in-Err.ensures.err
-              ∙ ap (world_at c.args.tenant) slice)))
+          (inr (
+            w.store_failed.ensures.value,
+            ap (world_at c.args.tenant) refill ∙ w.in-Err.ensures.err
+                ∙ ap (world_at c.args.tenant) slice,
+          )))
     ])
 
 pub returns-clause-charges : goal.returns-clause-charges
@@ -66,11 +69,11 @@ returns-clause-charges c =
     (elim c.match-turn_at.branch [
       | in-Ok w ↦ rw w.result-is
           (work_charges items new c.args.tenant within lent others c.args.request.now w.in-Ok.worked.reply (job_at c.args.tenant items)
-              w.in-Ok.worked.spent c.never_answers_503.ensures
+          w.in-Ok.worked.spent c.never_answers_503.ensures
           (subst (λ (ts : List Tenant). AnswersOver (world_at c.args.tenant ts) (world_at c.args.tenant new) c.args.request.now
-              w.in-Ok.worked.reply) slice w.in-Ok.ensures.works.answers)
+          w.in-Ok.worked.reply) slice w.in-Ok.ensures.works.answers)
           (subst (λ (ts : List Tenant). ChargesOver (world_at c.args.tenant ts) c.args.request.now (job_at c.args.tenant ts)
-              w.in-Ok.worked.reply w.in-Ok.worked.spent) slice w.in-Ok.ensures.works.charges))
+          w.in-Ok.worked.reply w.in-Ok.worked.spent) slice w.in-Ok.ensures.works.charges))
       | in-Err w ↦ rw w.result-is
           (λ world there. subst (λ (reply : ReplyMessage). Charges world c.args.request.now reply (spent_on (job_at c.args.tenant items))
           w.nothing.result) (sym w.store_failed.ensures.value) w.nothing.ensures)
@@ -86,16 +89,16 @@ returns-clause-goes_on c =
     let refill = refill_same c.self.inside.tenants.len items c.turn_at.new.tenants lent (omega (arith, c.self.inside.tenants.ok)) in
     let count = ap length refill ∙ lent in
     let others = λ (u : ℕ) (ne : u ≢ c.args.tenant). ap (λ (ts : List Tenant). slice_get ts u) refill ∙ c.turn_at.ensures.same u ne
-        ∙ ap (λ (ts : List Tenant). slice_get ts u) slice in
+    ∙ ap (λ (ts : List Tenant). slice_get ts u) slice in
     rw (← c.self.view_is)
     (elim c.match-turn_at.branch [
       | in-Ok w ↦ rw w.result-is
           (work_goes_on items _ c.args.tenant within count others c.args.request.now w.in-Ok.worked.reply
-              (job_at c.args.tenant items) w.in-Ok.worked.spent
+          (job_at c.args.tenant items) w.in-Ok.worked.spent
           (if_none w.in-Ok.worked.reply (λ same. ap (world_at c.args.tenant) refill ∙ same ∙ ap (world_at c.args.tenant) slice)
-              w.in-Ok.ensures.works.silent)
+          w.in-Ok.ensures.works.silent)
           (subst (λ (ts : List Tenant). ChargesOver (world_at c.args.tenant ts) c.args.request.now (job_at c.args.tenant ts)
-              w.in-Ok.worked.reply w.in-Ok.worked.spent) slice w.in-Ok.ensures.works.charges))
+          w.in-Ok.worked.reply w.in-Ok.worked.spent) slice w.in-Ok.ensures.works.charges))
       | in-Err w ↦ rw w.result-is tt
     ])
 
@@ -106,13 +109,13 @@ returns-clause-job c =
     let lent = c.turn_at.ensures.count ∙ ap length slice in
     let refill = refill_same c.self.inside.tenants.len items c.turn_at.new.tenants lent (omega (arith, c.self.inside.tenants.ok)) in
     let others = λ (u : ℕ) (ne : u ≢ c.args.tenant). ap (λ (ts : List Tenant). job_at u ts) refill ∙ job_same _ c.turn_at.new.tenants u
-        (c.turn_at.ensures.same u ne) ∙ ap (λ (ts : List Tenant). job_at u ts) slice in
+    (c.turn_at.ensures.same u ne) ∙ ap (λ (ts : List Tenant). job_at u ts) slice in
     rw (← c.self.view_is)
     (elim c.match-turn_at.branch [
       | in-Ok w ↦ rw w.result-is (record {
         job_is = ap (λ (ts : List Tenant). job_at c.args.tenant ts) refill ∙ w.in-Ok.ensures.works.job_is
             ∙ ap (λ (ts : List Tenant). job_after c.args.request.now w.in-Ok.worked.reply w.in-Ok.worked.spent (job_at c.args.tenant ts))
-                slice;
+            slice;
         others = others;
       })
       | in-Err w ↦ rw w.result-is (record {
@@ -127,7 +130,7 @@ invariant_of-self c =
     let new = c.turn_at.new.tenants in
     let lent = c.turn_at.ensures.count ∙ ap length c.deref_mut.ensures.value in
     subst AreRightTenants (sym (refill_same c.self.inside.tenants.len items new lent (omega (arith, c.self.inside.tenants.ok))))
-        c.turn_at.ensures.right
+    c.turn_at.ensures.right
 
 pub returns-clause-short : goal.returns-clause-short
 returns-clause-short c =
@@ -140,4 +143,4 @@ pub returns-clause-uses : goal.returns-clause-uses
 returns-clause-uses c =
     rw (← c.self.view_is)
     (IsUsed-cache c.self.inside.cache c.turn_at.new.cache c.counts-before.result c.counts-before.ensures (omega arith)
-        (omega arith) c.turn_at.ensures.uses)
+    (omega arith) c.turn_at.ensures.uses)

@@ -12,15 +12,15 @@ returns-in-Some c =
     let items = c.self.inside.tenants.items in
     let found = c.in-Some.tenant.now in
     let within : c.args.tenant < length items = subst (λ (ts : List Tenant). c.args.tenant < length ts) c.deref.ensures.value
-        (within_is _ _ (sym c.in-Some.ensures.lookup.0)) in
+    (within_is _ _ (sym c.in-Some.ensures.lookup.0)) in
     let here : found ≡ get_or items c.args.tenant found = c.in-Some.ensures.lookup.1
-        ∙ ap (λ (ts : List Tenant). get_or ts c.args.tenant found) c.deref.ensures.value in
+    ∙ ap (λ (ts : List Tenant). get_or ts c.args.tenant found) c.deref.ensures.value in
     rw (← c.self.view_is) (c.had.ensures ∙ ap (λ (t : Tenant). had_by (job_of t)) here
-        ∙ sym (ap had_by (job_there items c.args.tenant found within)))
+    ∙ sym (ap had_by (job_there items c.args.tenant found within)))
 
 pub returns-in-None : goal.returns-in-None
 returns-in-None c =
     let items = c.self.inside.tenants.items in
     let past : length items ≤ c.args.tenant = subst (λ (ts : List Tenant). length ts ≤ c.args.tenant) c.deref.ensures.value
-        (past_is _ _ (sym c.in-None.ensures.lookup.0)) in
+    (past_is _ _ (sym c.in-None.ensures.lookup.0)) in
     rw (← c.self.view_is) (c.nothing.ensures ∙ sym (ap had_by (job_past items c.args.tenant past)))

@@ -21,7 +21,7 @@ returns-clause-turn c =
     let new = refresh_of stored_by c.ask_tenant.new.self.keeper.now in
     let turned =
     subst (λ (t : Option (Result Turned FilesFault)). IfSome t (λ turned. IfOk turned (TurnsOn asked_in old new c.args.under_way)))
-        (sym c.take.ensures.value ∙ c.in-Some.is)
+    (sym c.take.ensures.value ∙ c.in-Some.is)
     c.ask_tenant.ensures.asked.turn in
     subst (λ (w : World). IfOk c.in-Some.turned (TurnsOn w old new c.args.under_way)) world_is turned
 
@@ -32,7 +32,7 @@ returns-clause-fresh c =
     let world_is : asked_in ≡ world = λ i. (c.args.self.now.store.0, c.requires.right.settings i) in
     let old = keeper_rows stored_by c.args.self.now.keeper in
     subst (λ (w : World). StayFresh w old (keeper_rows stored_by c.ask_tenant.new.self.keeper.now)) world_is
-        c.ask_tenant.ensures.asked.fresh
+    c.ask_tenant.ensures.asked.fresh
 
 pub returns-clause-right : goal.returns-clause-right
 returns-clause-right c =
@@ -41,7 +41,7 @@ returns-clause-right c =
     let world_is : asked_in ≡ world = λ i. (c.args.self.now.store.0, c.requires.right.settings i) in
     let kept = c.ask_tenant.new.self.keeper.now in
     subst (λ (w : World). IsRightTenant
-        (record { store = w; settings = c.args.self.now.settings; keeper = kept; job = c.args.self.now.job }))
-        (sym c.ask_tenant.ensures.same)
+    (record { store = w; settings = c.args.self.now.settings; keeper = kept; job = c.args.self.now.job }))
+    (sym c.ask_tenant.ensures.same)
     (idle_right world c.args.self.now.settings kept c.args.self.now.job c.requires.idle.none c.requires.right.settings
     (subst (λ (w : World). IsKept stored_by w kept) world_is c.ask_tenant.ensures.asked.kept))

@@ -31,7 +31,7 @@ invariant_of-self-in-Ok c = (
   c.write_file.ensures.kept,
   subst (λ (world : World). AreNoted c.note.new.lengths c.in-Some.usage (files_in world)) (sym c.in-Ok.ensures.stored)
       (noted_with c.self.inside.lengths c.self.inside.usage (files_in (world_in_state (state over_memory c.self.inside.conn)))
-          c.self.invariant.1
+      c.self.invariant.1
       c.as_str-text.result.now c.copied-had.result (c.copied-had.ensures ∙ c.get.ensures.value)
       c.args.content.now c.note.new.lengths c.in-Some.usage c.in_ok-note.ensures.noted c.in-Some.ensures.files c.in-Some.ensures.bytes),
   nothing_kept c.clear.new.self c.clear.ensures,
@@ -42,7 +42,7 @@ invariant_of-self-in-Err c = (
   c.write_file.ensures.kept,
   subst (λ (world : World). AreNoted c.put_back.new.lengths c.self.inside.usage (files_in world)) (sym c.in-Err.ensures.err)
       (noted_back c.self.inside.lengths c.self.inside.usage (files_in (world_in_state (state over_memory c.self.inside.conn)))
-          c.self.invariant.1
+      c.self.invariant.1
       c.as_str-text.result.now c.copied-had.result (c.copied-had.ensures ∙ c.get.ensures.value)
       c.note.new.lengths c.put_back.new.lengths (Some (length c.args.content.now)) c.in_ok-note.ensures.noted c.put_back.ensures),
   subst (λ (world : World). AreContents c.self.inside.contents.entries (files_in world)) (sym c.in-Err.ensures.err) c.self.invariant.2,

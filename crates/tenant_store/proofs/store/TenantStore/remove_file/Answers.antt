@@ -30,7 +30,7 @@ pub without-self-inside-requires-clause-bytes : goal.without-self-inside-require
 without-self-inside-requires-clause-bytes c =
     subst (λ had. unwrap_or had 0 ≤ c.self.inside.usage.bytes) c.in-Some.is
     (had_within c.self.inside.lengths c.self.inside.usage (files_in (world_in_state (state over_memory c.self.inside.conn)))
-        c.self.invariant.1
+    c.self.invariant.1
     c.as_str-text.result.now c.copied.result (c.copied.ensures ∙ c.get.ensures.value))
 
 pub invariant_of-self : goal.invariant_of-self

@@ -17,10 +17,10 @@ returns-clause-number c =
     let text = c.args.text.now in
     let kept = c.requires.numbering in
     let so_far : Knows slot_of met c.args.self.now.first.items (other_of c.args.self.now) =
-        record { inside = kept.inside; spare = kept.spare; knows = kept.knows } in
+    record { inside = kept.inside; spare = kept.spare; knows = kept.knows } in
     let new = new_in_slot slot_of met c.args.self.now.first.items (other_of c.args.self.now) so_far text c.requires.none in
     let after : now_all c.push.new.self.items ≡ met ++ text ∷ [] = ap now_all c.in_ok-push.ensures.items
-        ∙ map-append now c.args.self.now.texts.items (c.args.text ∷ []) in
+    ∙ map-append now c.args.self.now.texts.items (c.args.text ∷ []) in
     let count : length met ≡ c.len-number.result = omega (arith, c.len-number.ensures, length-map c.args.self.now.texts.items now) in
     ap (λ met. place_of met text) after ∙ place-last met text new ∙ ap Some count
 
@@ -34,7 +34,7 @@ returns-clause-more c =
     let so_far : Knows slot_of met marks other = record { inside = kept.inside; spare = kept.spare; knows = kept.knows } in
     let new = new_in_slot slot_of met marks other so_far text c.requires.none in
     let after : now_all c.push.new.self.items ≡ met ++ text ∷ [] = ap now_all c.in_ok-push.ensures.items
-        ∙ map-append now c.args.self.now.texts.items (c.args.text ∷ []) in
+    ∙ map-append now c.args.self.now.texts.items (c.args.text ∷ []) in
     let count : length met ≡ c.len-number.result = omega (arith, c.len-number.ensures, length-map c.args.self.now.texts.items now) in
     let fits : slot_of text < length marks = omega (arith, c.requires.inside, c.requires.slot, kept.slots) in
     let all : Knows slot_of (now_all c.push.new.self.items) (set marks c.args.slot (Some c.len-number.result)) other =

@@ -18,7 +18,7 @@ returns-then-number-len-clause-is c = λ same.
     let met = texts_met c.args.self.now in
     let is : c.args.text.now ≡ text_at met number =
     sym (equal_texts c.index.result.now.now c.args.text.now (sym c.eq.ensures ∙ same)) ∙ ap now c.index.ensures
-        ∙ sym (get_or-map now texts number c.index.result.now [] inside) in
+    ∙ sym (get_or-map now texts number c.index.result.now [] inside) in
     ap (place_of met) is ∙ c.requires.once number (omega (arith, inside, length-map texts now))
 
 pub returns-then-number-len-clause-differs : goal.returns-then-number-len-clause-differs
@@ -27,5 +27,5 @@ returns-then-number-len-clause-differs c = λ differs within.
     let number = c.args.number in
     let inside : number < length texts = omega (arith, c.if-number-len.true, c.len.ensures) in
     let there : c.index.result.now.now ≡ text_at (texts_met c.args.self.now) number = ap now c.index.ensures
-        ∙ sym (get_or-map now texts number c.index.result.now [] inside) in
+    ∙ sym (get_or-map now texts number c.index.result.now [] inside) in
     ap (bytes_eq c.args.text.now) (sym there) ∙ bytes_eq-sym c.args.text.now c.index.result.now.now ∙ sym c.eq.ensures ∙ differs

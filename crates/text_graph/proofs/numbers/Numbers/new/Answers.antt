@@ -30,9 +30,9 @@ pub returns : goal.returns
 returns c =
     let none : [] ≡ now_all c.new.result.items = sym (ap now_all c.new.ensures.items) in
     let empty : c.in_ok-vec.field-0.items ≡ replicate SLOTS None = c.in_ok-vec.ensures.items_if_clones_equal
-        (nothing_copied _ (λ x never. never)) in
+    (nothing_copied _ (λ x never. never)) in
     let no_first : (text : List ℕ) → get_or c.in_ok-vec.field-0.items (slot_of text) None ≡ None =
-        λ text. ap (λ marks. get_or marks (slot_of text) None) empty ∙ none_at SLOTS (slot_of text) in
+    λ text. ap (λ marks. get_or marks (slot_of text) None) empty ∙ none_at SLOTS (slot_of text) in
     let no_other = λ (text : List ℕ). ap (lookup (is_at (λ (key : Bor (List ℕ)). slice_cmp nat_cmp text key.now))) c.new-2.ensures.empty in
     record {
       slots = ap length empty ∙ length-replicate {A = Option ℕ} SLOTS None;

@@ -30,7 +30,7 @@ loop-arrow-preserved c =
       from = ap (λ all. map Some (begins all)) c.in_ok-push.ensures.items
           ∙ ap (map Some) (map_push (λ (arrow : NumberedArrow). arrow.from) numbered last)
           ∙ numbers-next old met more.keeps (begins numbered) (texts_from before) last.from arrow.from.now so_far.from
-              c.in_ok-last.ensures.from
+          c.in_ok-last.ensures.from
           ∙ ap (map (place_of met)) (sym (ap texts_from arrows ∙ map_push (λ (arrow : ArrowValue). arrow.from) before (arrow_seen arrow)));
       to = ap (λ all. map Some (ends all)) c.in_ok-push.ensures.items
           ∙ ap (map Some) (map_push (λ (arrow : NumberedArrow). arrow.to) numbered last)

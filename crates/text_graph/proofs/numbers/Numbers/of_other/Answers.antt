@@ -23,11 +23,11 @@ returns-clause-number c =
     let text = c.args.text.now in
     let kept = c.requires.numbering in
     let so_far : Knows slot_of met old.first.items (other_of old) =
-        record { inside = kept.inside; spare = kept.spare; knows = kept.knows } in
+    record { inside = kept.inside; spare = kept.spare; knows = kept.knows } in
     let new : place_of met text ≡ None = among_others slot_of met old.first.items (other_of old) so_far text c.requires.other.first
-        c.requires.other.kept c.requires.other.differs ∙ sym c.in_default.ensures.value in
+    c.requires.other.kept c.requires.other.differs ∙ sym c.in_default.ensures.value in
     let after : now_all c.push.new.self.items ≡ met ++ text ∷ [] = ap now_all c.in_ok-push.ensures.items
-        ∙ map-append now old.texts.items (c.args.text ∷ []) in
+    ∙ map-append now old.texts.items (c.args.text ∷ []) in
     let count : length met ≡ c.len-number.result = omega (arith, c.len-number.ensures, length-map old.texts.items now) in
     ap (λ met. place_of met text) after ∙ place-last met text new ∙ ap Some count
 
@@ -38,21 +38,21 @@ returns-clause-more c =
     let text = c.args.text.now in
     let kept = c.requires.numbering in
     let so_far : Knows slot_of met old.first.items (other_of old) =
-        record { inside = kept.inside; spare = kept.spare; knows = kept.knows } in
+    record { inside = kept.inside; spare = kept.spare; knows = kept.knows } in
     let new : place_of met text ≡ None = among_others slot_of met old.first.items (other_of old) so_far text c.requires.other.first
-        c.requires.other.kept c.requires.other.differs ∙ sym c.in_default.ensures.value in
+    c.requires.other.kept c.requires.other.differs ∙ sym c.in_default.ensures.value in
     let after : now_all c.push.new.self.items ≡ met ++ text ∷ [] = ap now_all c.in_ok-push.ensures.items
-        ∙ map-append now old.texts.items (c.args.text ∷ []) in
+    ∙ map-append now old.texts.items (c.args.text ∷ []) in
     let count : c.len-number.result ≡ length met = omega (arith, c.len-number.ensures, length-map old.texts.items now) in
     let others : List ℕ → Option ℕ = λ q. tree.get_by (λ key. slice_cmp nat_cmp q key.now) c.insert.new.self in
     let updates : UpdatesBy (λ x y. slice_cmp nat_cmp x.now y.now) (λ key. slice_cmp nat_cmp text key.now) old.others
-        c.insert.new.self (Some (length met)) =
+    c.insert.new.self (Some (length met)) =
     subst (λ number. UpdatesBy (λ x y. slice_cmp nat_cmp x.now y.now) (λ key. slice_cmp nat_cmp text key.now) old.others c.insert.new.self
-        (Some number)) count c.in_ok-insert.ensures.updates in
+    (Some number)) count c.in_ok-insert.ensures.updates in
     let all : Knows slot_of (now_all c.push.new.self.items) old.first.items others =
     subst (λ met. Knows slot_of met old.first.items others) (sym after)
     (knows-other slot_of met old.first.items (other_of old) so_far text c.requires.other.first c.requires.other.kept
-        c.requires.other.differs new others
+    c.requires.other.differs new others
     (λ q. btree_map_updates_str text old.others c.insert.new.self (Some (length met)) updates q)) in
     record {
       numbering = record {

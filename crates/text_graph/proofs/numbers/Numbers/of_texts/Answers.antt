@@ -21,8 +21,8 @@ loop-text-preserved c =
     record {
       numbers = ap (map Some) c.in_ok-push.ensures.items
           ∙ numbers-next (texts_met c.loop-text.self) met more.keeps c.loop-text.numbers.items
-              (now_all (take c.loop-text.text-index c.args.texts.now)) c.in_ok-of_text.field-0 text.now so_far.numbers
-              c.in_ok-of_text.ensures.number
+          (now_all (take c.loop-text.text-index c.args.texts.now)) c.in_ok-of_text.field-0 text.now so_far.numbers
+          c.in_ok-of_text.ensures.number
           ∙ ap (map (place_of met)) (sym (map_more now c.args.texts.now c.loop-text.text-index none c.loop-text-test.true));
       more = record { numbering = more.numbering; keeps = λ other number is. more.keeps other number (so_far.more.keeps other number is) };
     }

@@ -25,15 +25,15 @@ loop-arrow-preserved c =
     let before = take c.loop-arrow.arrow-index c.args.arrows.now in
     let arrow = get_or c.args.arrows.now c.loop-arrow.arrow-index no_arrow in
     let inside : arrow.from < length next = omega (arith, c.requires c.loop-arrow.arrow-index no_arrow c.loop-arrow-test.true, so_far.count)
-        in
+    in
     let put : c.push.new.self.items ≡ get_or (map items next) arrow.from [] ++ arrow.to ∷ [] =
     c.in_ok-push.ensures.items ∙ ap (λ all. all ++ arrow.to ∷ []) (ap items c.index_mut.ensures.value
-        ∙ sym (get_or-map items next arrow.from c.index_mut.result.now [] inside)) in
+    ∙ sym (get_or-map items next arrow.from c.index_mut.result.now [] inside)) in
     record {
       count = length-set next arrow.from c.push.new.self ∙ so_far.count;
       next = λ number is.
           ap (λ all. get_or all number []) (map-set items next arrow.from c.push.new.self ∙ ap (set (map items next) arrow.from) put)
           ∙ stepped (map items next) before arrow number (omega (arith, inside, length-map next items)) (so_far.next number is)
           ∙ ap (λ all. next_numbers all number)
-              (sym (take_more c.args.arrows.now c.loop-arrow.arrow-index no_arrow c.loop-arrow-test.true));
+          (sym (take_more c.args.arrows.now c.loop-arrow.arrow-index no_arrow c.loop-arrow-test.true));
     }
