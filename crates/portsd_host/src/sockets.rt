@@ -257,7 +257,8 @@ fn may_bring_more(read: &io::Result<usize>, room: usize) -> bool {
 
 /// What a read of a TCP socket brought. A read of no bytes is the end.
 fn outcome_of_read(read: io::Result<usize>) -> Outcome<usize>
-    ensures { MatchResult read (λ count. result ≡ heard count) (λ error. FailsAs (error_kind error) result) }
+    ensures { MatchResult read (λ count. result ≡ heard count)
+        (λ error. FailsAs (error_kind error) result) }
 {
     match read {
         Ok(0) => Outcome::End,
@@ -268,7 +269,8 @@ fn outcome_of_read(read: io::Result<usize>) -> Outcome<usize>
 /// What a call of a TCP socket brought: nothing yet, if it is to be tried again later, and a fault at any
 /// other error.
 fn outcome_of<T: Drop>(answer: io::Result<T>) -> Outcome<T>
-    ensures { MatchResult answer (λ got. result ≡ outcomes.Got got) (λ error. FailsAs (error_kind error) result) }
+    ensures { MatchResult answer (λ got. result ≡ outcomes.Got got)
+        (λ error. FailsAs (error_kind error) result) }
 {
     match answer {
         Ok(got) => Outcome::Got(got),

@@ -25,8 +25,8 @@ pub fn run_config<K: Tenants, R: Read, O: Write, E: Write>(
     out: &mut O,
     err: &mut E,
 ) -> u8
-    ensures { Finishes config (io_bytes R.remaining reader.old reader.new O.contents out.old out.new)
-        (E.contents err.old) (E.contents err.new) result }
+    ensures { Finishes config (io_bytes R.remaining reader.old reader.new O.contents out.old
+        out.new) (E.contents err.old) (E.contents err.new) result }
 {
     match run::<K, R, O>(alloc, config, reader, out) {
         Ok(()) => DONE,

@@ -55,8 +55,8 @@ fn serve_clients<K: Tenants, L: Listen, O: Write>(
     net: &L,
     out: &mut O,
 ) -> Result<(), Failure>
-    ensures done { OnOk result (ServesAllRounds L.Wire.after L.listens_on serving (O.contents out.old)
-        (O.contents out.new)) }
+    ensures done { OnOk result (ServesAllRounds L.Wire.after L.listens_on serving
+        (O.contents out.old) (O.contents out.new)) }
     ensures failed { FailsToServe result L.listens_on serving O.contents out.old out.new }
 {
     let Serving {
